@@ -11,11 +11,12 @@ use lib.ListN.{length, getD}
 use borrow.Author.Tests.{le-leb, lt-leb}
 use Rattle.rows.specs.Rows.{at, Row, Outline, lastRow, closing, Ancestor, LeftOf}
 use Rattle.rows.specs.Forest.{Forest, nil, cons, size, beside, forest}
+use Rattle.rows.specs.Stands.{Stands, Among}
 use Rattle.rows.specs.Embedding.{Embeds, Embedding, Included, LiesIn, done, pair, skip}
 use Rattle.rows.proofs.Depths.{inside-ends}
 use Rattle.rows.proofs.Order.{Compared, less, same, more, compared, Apart, above, below, before, behind, apart, Later, in-tree, past-tree, later, window, behind-window}
 use Rattle.rows.proofs.Flat.{size-beside}
-use Rattle.rows.proofs.Stands.{Stands, Among, stands-skip}
+use Rattle.rows.proofs.Stands.{stands-skip}
 use Rattle.rows.proofs.Windows.{stands-forest, size-forest}
 
 module _ (Fit : ℕ → ℕ → Type 0) (rd td : List ℕ) where

@@ -8,11 +8,11 @@ use lib.ListN.{length, getD, drop, length-drop, drop-of-length-le}
 use lib.Seq.{drop-cons, drop-drop, drop-nil}
 use Rattle.rows.specs.Rows.{Row, depth, Outline, deeper, descendants, lastRow}
 use Rattle.rows.specs.Forest.{Forest, nil, cons, size, grow, numbers, forestAt, forest, below}
+use Rattle.rows.specs.Stands.{Stands}
 use Rattle.rows.proofs.Deeper.{deeper-lt, deeper-ge}
 use Rattle.rows.proofs.Depths.{last-fits, inside-deeper, after-shallow, deeper-inside}
 use Rattle.rows.proofs.Order.{Compared, less, same, more, compared}
 use Rattle.rows.proofs.Flat.{grow-lt, grow-eq, grow-gt}
-use Rattle.rows.proofs.Stands.{Stands}
 
 grow-none : (ds : List ℕ) (d : ℕ) → grow {A = ℕ} ds [] d ≡ nil
 grow-none [] d = refl

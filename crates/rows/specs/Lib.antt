@@ -3,4 +3,5 @@ pub mod Limits
 pub mod Rows
 pub mod FirstBad
 pub mod Forest
+pub mod Stands
 pub mod Embedding

@@ -1,0 +1,95 @@
+-- Closing a row and joining a tree by the words of the recipe's shape. Assumes nothing.
+use mathlib.Core.Path.{_≡_, sym, _∙_}
+use mathlib.Core.Bool.{true, false}
+use mathlib.Core.List.{List}
+use Prim.Native.Nat.{ℕ, _≤_, _<_}
+use native.Mathlib.Omega.{arith}
+use native.Mathlib.Decide.{decLt}
+use lib.ListN.{length}
+use borrow.Author.Tests.{eq-eqb, ne-eqb}
+use Rattle.rows.specs.Rows.{at, depth}
+use Rattle.matching.specs.Family.{parent, rightSibling, leftLeaf}
+use Rattle.matching.specs.CornerRow.{closeRow, joinRow}
+use Rattle.matching.specs.Shape.{word, Shape}
+use Rattle.matching.specs.Room.{named}
+use Rattle.matching.proofs.CornerRow.{close-new, close-empty, close-top, close-wide, close-raise, close-other, join-empty, join-higher, join-wider, join-kept}
+
+-- a test of the row v, which has the label l
+module _ (rl : List ℕ) (v l name : ℕ) (e : l ≡ at rl v) where
+  named-same : l ≡ name → named rl v name ≡ true
+  named-same h = eq-eqb (at rl v) name (sym e ∙ h)
+
+  named-other : (l ≡ name → ⊥) → named rl v name ≡ false
+  named-other h = ne-eqb (at rl v) name (λ q. h (e ∙ q))
+
+module _ (rd ws rl : List ℕ) (k : Shape rd ws) (x name w : ℕ) (hx : x ≤ length rd) (hw : w ≤ length rd) where
+  abbrev Closed : ℕ
+  Closed = closeRow (named rl) rd x name w
+
+  module _ (v l : ℕ) (ev : v ≡ word 2 ws x) (el : l ≡ at rl v) (none : w ≡ 0) where
+    leaf : v ≡ leftLeaf rd x
+    leaf = ev ∙ k .leaves x hx
+
+    pub words-new : l ≡ name → v ≡ Closed
+    words-new h = leaf ∙ sym (close-new (named rl) rd x name w none (rw leaf at (named-same rl v l name el h)))
+
+    pub words-empty : (l ≡ name → ⊥) → 0 ≡ Closed
+    words-empty h = sym (close-empty (named rl) rd x name w none (rw leaf at (named-other rl v l name el h)))
+
+  module _ (d e : ℕ) (ed : d ≡ word 3 ws w) (ee : e ≡ word 3 ws x) (some : w ≡ 0 → ⊥) where
+    one : 1 ≤ w
+    one = omega arith
+
+    deep : d ≡ depth rd w
+    deep = ed ∙ k .depths w hw
+
+    from : e ≡ depth rd x
+    from = ee ∙ k .depths x hx
+
+    pub words-top : d ≡ e → w ≡ Closed
+    words-top h = sym (close-top (named rl) rd x name w one (sym deep ∙ h ∙ from))
+
+    module _ (low : d ≡ e → ⊥) (s : ℕ) (es : s ≡ word 1 ws w) where
+      lower : depth rd w ≡ depth rd x → ⊥
+      lower h = low (deep ∙ h ∙ sym from)
+
+      right : s ≡ rightSibling rd w
+      right = es ∙ k .rights w hw
+
+      pub words-wide : (s ≡ 0 → ⊥) → w ≡ Closed
+      words-wide h = sym (close-wide (named rl) rd x name w one lower (λ q. h (right ∙ q)))
+
+      module _ (last : s ≡ 0) (v l : ℕ) (ev : v ≡ word 0 ws w) (el : l ≡ at rl v) where
+        up : v ≡ parent rd w
+        up = ev ∙ k .parents w hw
+
+        pub words-raise : l ≡ name → v ≡ Closed
+        words-raise h = up ∙ sym (close-raise (named rl) rd x name w one lower (sym right ∙ last) (rw up at (named-same rl v l name el h)))
+
+        pub words-other : (l ≡ name → ⊥) → w ≡ Closed
+        words-other h = sym (close-other (named rl) rd x name w one lower (sym right ∙ last) (rw up at (named-other rl v l name el h)))
+
+module _ (rd ws : List ℕ) (k : Shape rd ws) (a b w : ℕ) (ha : a ≤ length rd) (hb : b ≤ length rd) (hw : w ≤ length rd) where
+  pub words-none : a ≡ 0 → b ≡ joinRow rd a b w
+  words-none h = sym (join-empty rd a b w h)
+
+  module _ (some : a ≡ 0 → ⊥) (d : ℕ) (ed : d ≡ word 3 ws a) where
+    here : d ≡ depth rd a
+    here = ed ∙ k .depths a ha
+
+    pub words-higher : (1 ≤ b) × (word 3 ws b < d) → b ≡ joinRow rd a b w
+    words-higher h = sym (join-higher rd a b w (omega arith) (h .0) (omega (arith, k .depths b hb, here)))
+
+    module _ (low : (1 ≤ b) × (word 3 ws b < d) → ⊥) where
+      under : 1 ≤ b → depth rd a ≤ depth rd b
+      under o = go (decLt (word 3 ws b) d)
+        where
+          go : Dec (word 3 ws b < d) → depth rd a ≤ depth rd b
+          go (yes h) = absurd (low (o, h))
+          go (no h) = omega (arith, k .depths b hb, here)
+
+      pub words-wider : (1 ≤ w) × (word 3 ws w ≡ d) → w ≡ joinRow rd a b w
+      words-wider h = sym (join-wider rd a b w (omega arith) under (h .0) (omega (arith, k .depths w hw, here)))
+
+      pub words-kept : ((1 ≤ w) × (word 3 ws w ≡ d) → ⊥) → a ≡ joinRow rd a b w
+      words-kept h = sym (join-kept rd a b w (omega arith) under (λ o q. h (o, k .depths w hw ∙ q ∙ sym here)))

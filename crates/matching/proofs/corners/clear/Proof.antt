@@ -1,0 +1,57 @@
+-- `matching::corners::clear` meets its contract: the words of a level are all 0, and no other word moves. Assumes nothing.
+use native.Mathlib.Omega.{arith}
+use mathlib.Core.Path.{_≡_, refl}
+use Prim.Native.Nat.{_≤_, _-_}
+use native.Mathlib.Numerals.{add-one}
+use Rattle.matching.specs.Room.{Written}
+use Rattle.matching.proofs.Written.{written-none, written-one}
+use Rattle.matching.proofs.corners.clear.Statement.{statement}
+use Rattle.matching.proofs.corners.clear.Tie as tie
+
+abbrev Inv-loop : tie.InvT-loop
+Inv-loop room₀ base q i₀ room i = (i ≤ q) × Written room₀ base i (λ j. 0) room
+
+abbrev μ-loop : tie.MeasureT-loop
+μ-loop room₀ base q i₀ room i = q - i
+
+loop-holds : tie.Need-loop-holds Inv-loop μ-loop
+loop-holds c = (omega arith, written-none _ _ _)
+
+add-room : tie.Need-add-room Inv-loop μ-loop
+add-room c = omega arith
+
+mul-room : tie.Need-mul-room Inv-loop μ-loop
+mul-room c = omega arith
+
+element-write-room : tie.Need-element-write-room Inv-loop μ-loop
+element-write-room c = omega arith
+
+add-i : tie.Need-add-i Inv-loop μ-loop
+add-i c = omega arith
+
+loop-less : tie.Need-loop-less Inv-loop μ-loop
+loop-less c = omega arith
+
+loop-again : tie.Need-loop-again Inv-loop μ-loop
+loop-again c =
+    let start = c .before .before in
+    let a = start .args in
+    (omega arith, rw add-one (written-one (a .room .now) (a .base) (λ j. 0) (c .before .loop .i) (c .before .loop .room) 0 (omega arith) (c .before .loop .inv .1) refl))
+
+returns : tie.Need-returns Inv-loop μ-loop
+returns c = let e : c .before .loop .i ≡ c .before .before .args .q = omega arith in rw e at (c .before .loop .inv .1)
+
+pub clear-spec : {M : Type 1} → statement M
+clear-spec =
+    tie.close
+    (tie.spec
+    Inv-loop
+    μ-loop
+    loop-holds
+    add-room
+    mul-room
+    element-write-room
+    add-i
+    loop-less
+    loop-again
+    returns)

@@ -1,0 +1,63 @@
+-- `matching::corners::join_row` meets its contract: the corner of two forests side by side is the higher one, or the wider of two as high. Assumes nothing.
+use mathlib.Core.Path.{sym, _∙_}
+use mathlib.Core.Bool.{true≢false}
+use Rattle.matching.specs.Room.{recipeOf}
+use Rattle.matching.proofs.CornerWords.{words-none, words-higher, words-wider, words-kept}
+use borrow.Author.Needs.{needs}
+use Rattle.matching.proofs.corners.join_row.Statement.{statement}
+use Rattle.matching.proofs.corners.join_row.Tie as tie
+
+returns : tie.Need-returns
+returns c =
+    let start = c .before .before in
+    let a = start .args in
+    words-none (recipeOf (a .shape .now) (a .labels .now)) (a .shape .now) (start .pre .0) (a .a) (a .b) (a .w) (start .pre .1 .0) (start .pre .1 .1) (start .pre .1 .2) (c .if1 .taken)
+
+depth-of-requires : tie.Need-depth-of-requires
+depth-of-requires c κs = search needs
+
+is-higher-requires : tie.Need-is-higher-requires
+is-higher-requires c κs = search needs
+
+returns-2 : tie.Need-returns-2
+returns-2 c =
+    let up = c .before in
+    let deep = up .before in
+    let start = deep .before .before .before in
+    let a = start .args in
+    words-higher (recipeOf (a .shape .now) (a .labels .now)) (a .shape .now) (start .pre .0) (a .a) (a .b) (a .w) (start .pre .1 .0) (start .pre .1 .1) (start .pre .1 .2) (deep .before .if1 .left) _ (deep .depth-of .ensures) (up .is-higher .ensures .0 (c .if2 .taken))
+
+is-level-requires : tie.Need-is-level-requires
+is-level-requires c κs = search needs
+
+returns-3 : tie.Need-returns-3
+returns-3 c =
+    let side = c .before in
+    let up = side .before in
+    let deep = up .before .before in
+    let start = deep .before .before .before in
+    let a = start .args in
+    words-wider (recipeOf (a .shape .now) (a .labels .now)) (a .shape .now) (start .pre .0) (a .a) (a .b) (a .w) (start .pre .1 .0) (start .pre .1 .1) (start .pre .1 .2) (deep .before .if1 .left) _ (deep .depth-of .ensures) (λ h. true≢false (sym (up .before .is-higher .ensures .1 h) ∙ up .if2 .left))
+    (side .is-level .ensures .0 (c .if3 .taken))
+
+returns-4 : tie.Need-returns-4
+returns-4 c =
+    let side = c .before in
+    let up = side .before in
+    let deep = up .before .before in
+    let start = deep .before .before .before in
+    let a = start .args in
+    words-kept (recipeOf (a .shape .now) (a .labels .now)) (a .shape .now) (start .pre .0) (a .a) (a .b) (a .w) (start .pre .1 .0) (start .pre .1 .1) (start .pre .1 .2) (deep .before .if1 .left) _ (deep .depth-of .ensures) (λ h. true≢false (sym (up .before .is-higher .ensures .1 h) ∙ up .if2 .left))
+    (λ h. true≢false (sym (side .is-level .ensures .1 h) ∙ c .if3 .left))
+
+pub join-row-spec : {M : Type 1} → statement M
+join-row-spec =
+    tie.close
+    (tie.spec
+    returns
+    depth-of-requires
+    is-higher-requires
+    returns-2
+    is-level-requires
+    returns-3
+    returns-4)

@@ -1,0 +1,14 @@
+-- What the contracts of `matching` cite. The first three files are parts of document 01, the others say what the code does.
+pub mod Answer
+pub mod Corner
+pub mod EarliestClose
+pub mod Family
+pub mod Refusals
+pub mod Judge
+pub mod Asked
+pub mod CornerRow
+pub mod Engine
+pub mod Linked
+pub mod Placing
+pub mod Room
+pub mod Shape

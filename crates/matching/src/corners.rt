@@ -1,0 +1,288 @@
+// The corners of the chains asked, as the rows of a listing close and join.
+ghost use mathlib.Core.Path.{_≡_};
+ghost use mathlib.Core.Bool.{true};
+ghost use mathlib.Core.Logic.{_↔_};
+ghost use Prim.Native.Nat.{ℕ, suc, _≤_, _<_, _+_};
+ghost use lib.ListN.{length, getD};
+ghost use Rattle.rows.specs.Rows.{at, depth, descendants, lastRow};
+ghost use Rattle.rows.specs.Forest.{size, forestAt};
+ghost use Rattle.matching.specs.CornerRow.{closeRow, joinRow};
+ghost use Rattle.matching.specs.Shape.{Shape, word};
+ghost use Rattle.matching.specs.Asked.{chain, noted};
+ghost use Rattle.matching.specs.Engine.{Ready, Begins, Ends, cornerOf, withTree};
+ghost use Rattle.matching.specs.Room.{roomWords, recipeOf, named, alone, following, Written, closed, joined, joinedAlone, Joins, JoinsAlone};
+use crate::asked::extend;
+use crate::asked::wide;
+use crate::shape::depth_of;
+use crate::shape::leaf_of;
+use crate::shape::parent_of;
+use crate::shape::right_of;
+
+// The label of recipe row v; 0 where there is no such row.
+fn label_of(labels: &[u32], v: u16) -> u32
+    ensures { λ r. ⌜ r ≡ at (now (labels .entry)) v ⌝ }
+{
+    let i = v as usize;
+    if i == 0 {
+        return 0;
+    }
+    if labels.len() < i {
+        return 0;
+    }
+    labels[i - 1]
+}
+
+// Close a row with the label name over the rows below it, whose corner on chain x is w: the corner on chain x then.
+pub(crate) fn close_row(shape: &[u16; 1028], labels: &[u32], name: u32, x: u16, w: u16) -> u16
+    requires { ⌜ Shape (recipeOf (now shape) (now labels)) (now shape) ⌝ }
+    requires { ⌜ (x ≤ length (recipeOf (now shape) (now labels))) × (w ≤ length (recipeOf (now shape) (now labels))) ⌝ }
+    ensures { λ r. ⌜ r ≡ closeRow (named (now (labels .entry))) (recipeOf (now (shape .entry)) (now (labels .entry))) x name w ⌝ }
+{
+    if w == 0 {
+        let v = leaf_of(shape, x);
+        if label_of(labels, v) == name {
+            return v;
+        }
+        return 0;
+    }
+    if depth_of(shape, w) == depth_of(shape, x) {
+        return w;
+    }
+    if right_of(shape, w) != 0 {
+        return w;
+    }
+    let v = parent_of(shape, w);
+    if label_of(labels, v) == name {
+        return v;
+    }
+    w
+}
+
+// Whether b is a row, and shallower than d.
+fn is_higher(shape: &[u16; 1028], b: u16, d: u16) -> bool
+    requires { ⌜ b ≤ 256 ⌝ }
+    ensures { λ r. ⌜ (r ≡ true) ↔ ((1 ≤ b) × (word 3 (now (shape .entry)) b < d)) ⌝ }
+{
+    if b == 0 {
+        return false;
+    }
+    depth_of(shape, b) < d
+}
+
+// Whether w is a row of depth d.
+pub(crate) fn is_level(shape: &[u16; 1028], w: u16, d: u16) -> bool
+    requires { ⌜ w ≤ 256 ⌝ }
+    ensures { λ r. ⌜ (r ≡ true) ↔ ((1 ≤ w) × (word 3 (now (shape .entry)) w ≡ d)) ⌝ }
+{
+    if w == 0 {
+        return false;
+    }
+    depth_of(shape, w) == d
+}
+
+// Join a tree: a is the corner so far, b the tree's corner on the same chain, w the tree's corner on the chain after a.
+fn join_row(shape: &[u16; 1028], labels: &[u32], a: u16, b: u16, w: u16) -> u16
+    requires { ⌜ Shape (recipeOf (now shape) (now labels)) (now shape) ⌝ }
+    requires { ⌜ (a ≤ length (recipeOf (now shape) (now labels))) × (b ≤ length (recipeOf (now shape) (now labels))) × (w ≤ length (recipeOf (now shape) (now labels))) ⌝ }
+    ensures { λ r. ⌜ r ≡ joinRow (recipeOf (now (shape .entry)) (now (labels .entry))) a b w ⌝ }
+{
+    if a == 0 {
+        return b;
+    }
+    let d = depth_of(shape, a);
+    if is_higher(shape, b, d) {
+        return b;
+    }
+    if is_level(shape, w, d) {
+        return w;
+    }
+    a
+}
+
+// No corners yet: the q words of the room from base on become 0.
+fn clear(room: &mut [u16; 14592], base: usize, q: usize)
+    requires { ⌜ (base + q ≤ roomWords) × (length (now room) ≡ roomWords) ⌝ }
+    ensures { λ r. ⌜ Written (now (room .entry)) base q (λ i. 0) (now (room .exit)) ⌝ }
+{
+    let mut i = 0;
+    while i < q {
+        room[base + i] = 0;
+        i += 1;
+    }
+}
+
+// Closes a row with the label name over the rows below it, whose corners on the z chains asked stand from base on.
+fn close_asked(
+    shape: &[u16; 1028],
+    labels: &[u32],
+    name: u32,
+    asked: &[u16; 513],
+    room: &mut [u16; 14592],
+    base: usize,
+    z: usize,
+)
+    requires { ⌜ Shape (recipeOf (now shape) (now labels)) (now shape) ⌝ }
+    requires { ⌜ (base + z ≤ roomWords) × (length (now room) ≡ roomWords) × (z ≤ 256) ⌝ }
+    requires { ⌜ ((i : ℕ) → i < z → (chain (now asked) i ≤ length (recipeOf (now shape) (now labels))) × (getD (now room) (base + i) 0 ≤ length (recipeOf (now shape) (now labels)))) ⌝ }
+    ensures { λ r. ⌜ Written (now (room .entry)) base z (closed (now (shape .entry)) (now (labels .entry)) name (now (asked .entry)) (now (room .entry)) base) (now (room .exit)) ⌝ }
+{
+    let mut i = 0;
+    while i < z {
+        room[base + i] = close_row(shape, labels, name, asked[i], room[base + i]);
+        i += 1;
+    }
+}
+
+// The tree's corner on the chain after a, which the room keeps from base on; 0 where there is no such chain.
+fn corner_after(
+    shape: &[u16; 1028],
+    asked: &[u16; 513],
+    room: &[u16; 14592],
+    base: usize,
+    a: u16,
+) -> u16
+    requires { ⌜ (a ≤ 256) × (word 1 (now shape) a ≤ 256) × (1 ≤ word 1 (now shape) a → base + noted (now asked) (word 1 (now shape) a) < roomWords) ⌝ }
+    ensures { λ r. ⌜ r ≡ following (now (shape .entry)) (now (asked .entry)) (now (room .entry)) base a ⌝ }
+{
+    let y = right_of(shape, a);
+    if y == 0 {
+        return 0;
+    }
+    let place = wide(asked[256 + (y as usize)]);
+    room[base + place]
+}
+
+// Joins the tree whose corners on the chains asked stand behind the q corners from base on.
+fn join_asked(
+    shape: &[u16; 1028],
+    labels: &[u32],
+    asked: &[u16; 513],
+    room: &mut [u16; 14592],
+    base: usize,
+    q: usize,
+    z: usize,
+)
+    requires { ⌜ Shape (recipeOf (now shape) (now labels)) (now shape) ⌝ }
+    requires { ⌜ (q ≤ z) × (base + q + z ≤ roomWords) × (length (now room) ≡ roomWords) ⌝ }
+    requires { ⌜ ((i : ℕ) → i < q → Joins (now shape) (now labels) (now asked) (now room) base q z i) ⌝ }
+    ensures { λ r. ⌜ Written (now (room .entry)) base q (joined (now (shape .entry)) (now (labels .entry)) (now (asked .entry)) (now (room .entry)) base q) (now (room .exit)) ⌝ }
+{
+    let mut i = 0;
+    while i < q {
+        let a = room[base + i];
+        let w = corner_after(shape, asked, room, base + q, a);
+        room[base + i] = join_row(shape, labels, a, room[base + q + i], w);
+        i += 1;
+    }
+}
+
+// Joins a row with the label name that has no row below it to the q corners from base on.
+fn join_leaf(
+    shape: &[u16; 1028],
+    labels: &[u32],
+    name: u32,
+    asked: &[u16; 513],
+    room: &mut [u16; 14592],
+    base: usize,
+    q: usize,
+)
+    requires { ⌜ Shape (recipeOf (now shape) (now labels)) (now shape) ⌝ }
+    requires { ⌜ (base + q ≤ roomWords) × (length (now room) ≡ roomWords) × (q ≤ 256) ⌝ }
+    requires { ⌜ ((i : ℕ) → i < q → JoinsAlone (now shape) (now labels) name (now asked) (now room) base i) ⌝ }
+    ensures { λ r. ⌜ Written (now (room .entry)) base q (joinedAlone (now (shape .entry)) (now (labels .entry)) name (now (asked .entry)) (now (room .entry)) base) (now (room .exit)) ⌝ }
+{
+    let mut i = 0;
+    while i < q {
+        let a = room[base + i];
+        let b = close_row(shape, labels, name, asked[i], 0);
+        let w = close_row(shape, labels, name, right_of(shape, a), 0);
+        room[base + i] = join_row(shape, labels, a, b, w);
+        i += 1;
+    }
+}
+
+// Whether the row behind `first` rows has rows below it.
+pub(crate) fn has_rows(depths: &[u16], first: usize) -> bool
+    requires { ⌜ first < length (now depths) ⌝ }
+    ensures { λ r. ⌜ (r ≡ true) ↔ (1 ≤ descendants (now (depths .entry)) (suc first)) ⌝ }
+{
+    if depths.len() <= first + 1 {
+        return false;
+    }
+    depths[first] < depths[first + 1]
+}
+
+// Tree against forest: the tree whose first row stands behind `first` rows of the listing joins the q corners from base on.
+// Answers how many rows stand before the end of the tree.
+pub(crate) fn tree_corners(
+    depths: &[u16],
+    names: &[u32],
+    shape: &[u16; 1028],
+    labels: &[u32],
+    asked: &mut [u16; 513],
+    room: &mut [u16; 14592],
+    base: usize,
+    q: usize,
+    first: usize,
+) -> usize
+    requires { ⌜ Ready (now shape) (now labels) (now depths) (now names) × (first < length (now depths)) ⌝ }
+    requires { ⌜ Begins (now shape) (now labels) (now asked) (now room) base q (depth (now depths) (suc first)) ⌝ }
+    requires { ⌜ ((i : ℕ) → i < q → getD (now room) (base + i) 0 ≤ length (recipeOf (now shape) (now labels))) ⌝ }
+    ensures { λ r. ⌜ r ≡ lastRow (now (depths .entry)) (suc first) ⌝ }
+    ensures { λ r. ⌜ Ends (now (shape .entry)) (now (labels .entry)) (now (asked .entry)) (now (room .entry)) base q
+        (λ i. withTree (now (shape .entry)) (now (labels .entry)) (now (depths .entry)) (now (names .entry)) first (chain (now (asked .entry)) i) (getD (now (room .entry)) (base + i) 0))
+        (now (asked .exit)) (now (room .exit)) ⌝ }
+{
+    let name = names[first];
+    if !has_rows(depths, first) {
+        join_leaf(shape, labels, name, asked, room, base, q);
+        return first + 1;
+    }
+    let z = extend(shape, asked, room, base, q);
+    let end = forest_corners(
+        depths,
+        names,
+        shape,
+        labels,
+        asked,
+        room,
+        base + q,
+        z,
+        first + 1,
+    );
+    close_asked(shape, labels, name, asked, room, base + q, z);
+    join_asked(shape, labels, asked, room, base, q, z);
+    end
+}
+
+// Forest against forest: the corners from base on of the trees that stand side by side behind `first` rows of the listing, on
+// the q chains asked. Answers how many rows stand before their end.
+pub(crate) fn forest_corners(
+    depths: &[u16],
+    names: &[u32],
+    shape: &[u16; 1028],
+    labels: &[u32],
+    asked: &mut [u16; 513],
+    room: &mut [u16; 14592],
+    base: usize,
+    q: usize,
+    first: usize,
+) -> usize
+    requires { ⌜ Ready (now shape) (now labels) (now depths) (now names) × (first < length (now depths)) ⌝ }
+    requires { ⌜ Begins (now shape) (now labels) (now asked) (now room) base q (depth (now depths) (suc first)) ⌝ }
+    ensures { λ r. ⌜ r ≡ first + size (forestAt (now (depths .entry)) first (depth (now (depths .entry)) (suc first))) ⌝ }
+    ensures { λ r. ⌜ Ends (now (shape .entry)) (now (labels .entry)) (now (asked .entry)) (now (room .entry)) base q
+        (λ i. cornerOf (now (shape .entry)) (now (labels .entry)) (now (names .entry)) (forestAt (now (depths .entry)) first (depth (now (depths .entry)) (suc first))) (chain (now (asked .entry)) i))
+        (now (asked .exit)) (now (room .exit)) ⌝ }
+{
+    clear(room, base, q);
+    let top = depths[first];
+    let mut at = first;
+    while at < depths.len() {
+        if depths[at] < top {
+            return at;
+        }
+        at = tree_corners(depths, names, shape, labels, asked, room, base, q, at);
+    }
+    at
+}

@@ -1,0 +1,66 @@
+// The map of earliest close: an image for each recipe row, in row order.
+ghost use mathlib.Core.Path.{_≡_};
+ghost use Prim.Native.Nat.{suc, _≤_};
+ghost use lib.ListN.{length, take, drop};
+ghost use Rattle.rows.specs.Limits.{listingRows};
+ghost use Rattle.rows.specs.Rows.{at, lastRow};
+ghost use Rattle.rows.specs.Embedding.{SameLabel, Included};
+ghost use Rattle.matching.specs.EarliestClose.{EarliestClose};
+ghost use Rattle.matching.specs.Placing.{barred};
+ghost use Rattle.matching.specs.Room.{recipeOf, roomWords};
+ghost use Rattle.matching.specs.Engine.{Ready};
+use crate::link::kin_of;
+use crate::seek::seek;
+
+// The image of recipe row v; 0 where there is none.
+fn image_of(map: &[u16], v: u16) -> u16
+    ensures { λ r. ⌜ r ≡ at (now (map .entry)) v ⌝ }
+{
+    rows::depth_of(map, rows::Opening(v as usize))
+}
+
+// The last row that a recipe row may not go to: of the tree at its left sibling's image, or the image of its parent.
+fn last_barred(depths: &[u16], map: &[u16], left: u16, parent: u16) -> usize
+    ensures { λ r. ⌜ r ≡ barred (now (depths .entry)) (now (map .entry)) left parent ⌝ }
+{
+    if left == 0 {
+        return image_of(map, parent) as usize;
+    }
+    rows::last_row_of(depths, rows::Opening(image_of(map, left) as usize)).0
+}
+
+// The last row that a recipe row may go to: of the tree at its parent's image.
+fn last_open(depths: &[u16], map: &[u16], parent: u16) -> usize
+    ensures { λ r. ⌜ r ≡ lastRow (now (depths .entry)) (at (now (map .entry)) parent) ⌝ }
+{
+    rows::last_row_of(depths, rows::Opening(image_of(map, parent) as usize)).0
+}
+
+// Places all recipe rows: the first slots of the map become the map of earliest close, and later slots stay.
+pub(crate) fn place_rows(
+    depths: &[u16],
+    names: &[u32],
+    recipe: &[u16],
+    shape: &[u16; 1028],
+    labels: &[u32],
+    asked: &mut [u16; 513],
+    room: &mut [u16; 14592],
+    map: &mut [u16],
+)
+    requires { ⌜ Ready (now shape) (now labels) (now depths) (now names) × (recipeOf (now shape) (now labels) ≡ now recipe) ⌝ }
+    requires { ⌜ (length (now depths) ≤ listingRows) × (length (now recipe) ≤ length (now map)) ⌝ }
+    requires { ⌜ Included (SameLabel (now labels) (now names)) (now recipe) (now depths) ⌝ }
+    requires { ⌜ (length (now asked) ≡ 513) × (length (now room) ≡ roomWords) ⌝ }
+    ensures { λ r. ⌜ EarliestClose (SameLabel (now (labels .entry)) (now (names .entry))) (now (recipe .entry)) (now (depths .entry)) (take (length (now (recipe .entry))) (now (map .exit))) ⌝ }
+    ensures { λ r. ⌜ drop (length (now (recipe .entry))) (now (map .exit)) ≡ drop (length (now (recipe .entry))) (now (map .entry)) ⌝ }
+{
+    let mut n = 0;
+    while n < recipe.len() {
+        let v = (n + 1) as u16;
+        let kin = kin_of(recipe, shape, v);
+        let to = last_open(depths, map, kin.parent);
+        let from = last_barred(depths, map, kin.left, kin.parent) + 1;
+        map[n] = seek(depths, names, shape, labels, asked, room, v, from, to) as u16;
+        n += 1;
+    }
+}
