@@ -1,0 +1,2 @@
+-- What the contracts of `parcel_bench` cite.
+pub mod Places
