@@ -1,0 +1,2 @@
+-- What the contract of `inclusion_bench` cites.
+pub mod Code

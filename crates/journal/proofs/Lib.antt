@@ -1,0 +1,20 @@
+-- The laws of strikes and undos, for this crate's proofs and for other crates.
+pub mod Shifts
+pub mod Verdicts
+pub mod Carried
+pub mod Good
+pub mod Returns
+pub mod Rises
+pub mod Returned
+pub mod Strikes
+pub mod Words
+pub mod Sessions
+pub mod Picks
+pub mod Keep
+pub mod Series
+pub mod Lies
+pub mod Images
+pub mod Recipe
+pub mod Examples
+pub mod Outcomes
+pub mod NeverStruck
