@@ -1,10 +1,10 @@
-# make run: the main job on document 01's examples.  make test: the gate.  make bench: speed beside plain programs.
+# make run: the main job on document 01's example.  make test: the gate.  make bench: speed beside plain programs.
 .PHONY: run test bench
 
 run:
-	@rt check
-	@echo 'All crates are proved. The answers to the examples E1 to E10:'
-	@cat crates/inclusion_examples/stdout
+	@rt check polashvek
+	@printf 'Recipe 10(20), listing 10(30(20)): '
+	@sh tools/run-program.sh polashvek <crates/polashvek/stdin
 
 test:
 	@bash .ci/run

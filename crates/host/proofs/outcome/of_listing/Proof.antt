@@ -1,0 +1,105 @@
+use mathlib.Core.Path.{sym}
+use native.Mathlib.Omega.{arith}
+use lib.ListN.{length}
+use lib.Seq.{length-take-le}
+use Rattle.rows.specs.Limits.{listingRows}
+use Rattle.parcels.specs.declared.Limit.the-variants.{Listing}
+use Rattle.host.proofs.Reading.{read-found, rows-fit, depths-taken, labels-taken}
+use borrow.Author.Needs.{needs}
+use Rattle.host.proofs.outcome.of_listing.Statement.{statement}
+use Rattle.host.proofs.outcome.of_listing.Tie as tie
+
+read-requires : tie.Need-read-requires
+read-requires c κs = search needs
+
+enum-known-refusal : tie.Need-enum-known-refusal
+enum-known-refusal c = search needs
+
+refused-parcel-requires : tie.Need-refused-parcel-requires
+refused-parcel-requires c κs = search needs
+
+enum-known-count : tie.Need-enum-known-count
+enum-known-count c = search needs
+
+slice-reshare-prefix-of-tables : tie.Need-slice-reshare-prefix-of-tables
+slice-reshare-prefix-of-tables c =
+    let a = c .before .before .before .before .before .before .before .before .before .before .before .before .before .before .before .before .args in
+    let read = c .before .before .before .before .before .before .before .read in
+    let fits = rows-fit (a .input .now) (a .start) Listing (a .listing-depths .now) (a .listing-labels .now) (read .ensures .0) _ _ (c .before .count .given .1) in
+    omega (arith, fits .0, read .kept .1 .1 .1 .0)
+
+slice-aggregate-of-tables : tie.Need-slice-aggregate-of-tables
+slice-aggregate-of-tables c =
+    let a = c .before .before .before .before .before .before .before .before .before .before .before .before .before .before .before .before .before .args in
+    let read = c .before .before .before .before .before .before .before .before .read in
+    let fits = rows-fit (a .input .now) (a .start) Listing (a .listing-depths .now) (a .listing-labels .now) (read .ensures .0) _ _ (c .before .before .count .given .1) in
+    sym (length-take-le _ _ (omega (arith, fits .0, read .kept .1 .1 .1 .0)))
+
+slice-reshare-prefix-of-tables-2 : tie.Need-slice-reshare-prefix-of-tables-2
+slice-reshare-prefix-of-tables-2 c =
+    let a = c .before .before .before .before .before .before .before .before .before .before .before .before .before .before .before .before .before .args in
+    let read = c .before .before .before .before .before .before .before .before .read in
+    let fits = rows-fit (a .input .now) (a .start) Listing (a .listing-depths .now) (a .listing-labels .now) (read .ensures .0) _ _ (c .before .before .count .given .1) in
+    omega (arith, fits .1, read .kept .1 .1 .1 .1 .0)
+
+slice-aggregate-of-tables-2 : tie.Need-slice-aggregate-of-tables-2
+slice-aggregate-of-tables-2 c =
+    let a = c .before .before .before .before .before .before .before .before .before .before .before .before .before .before .before .before .before .before .args in
+    let read = c .before .before .before .before .before .before .before .before .before .read in
+    let fits = rows-fit (a .input .now) (a .start) Listing (a .listing-depths .now) (a .listing-labels .now) (read .ensures .0) _ _ (c .before .before .before .count .given .1) in
+    sym (length-take-le _ _ (omega (arith, fits .1, read .kept .1 .1 .1 .1 .0)))
+
+of-tables-requires : tie.Need-of-tables-requires
+of-tables-requires c κs = search needs
+
+same-length : tie.Need-same-length
+same-length c = search needs
+
+same-length-2 : tie.Need-same-length-2
+same-length-2 c = search needs
+
+returns : tie.Need-returns
+returns c =
+    let a = c .before .before .before .before .before .before .before .before .before .before .before .before .before .before .before .before .before .args in
+    let found = read-found (a .input .now) (a .start) Listing (a .listing-depths .now) (a .listing-labels .now) (c .before .before .before .before .before .before .before .before .read .ensures .0) listingRows (c .before .before .before .before .before .before .before .before .before .before .before .before .before .before .before .before .before .pre .0 .0) (c .before .before .before .before .before .before .before .before .before .before .before .before .before .before .before .before .before .pre .0 .1) (c .before .before .refusal .given .1) in
+    rw found (c .refused-parcel .ensures, c .before .before .before .before .before .before .before .before .before .before .before .before .before .before .before .before .before .pre .1)
+
+same-length-3 : tie.Need-same-length-3
+same-length-3 c = search needs
+
+same-length-4 : tie.Need-same-length-4
+same-length-4 c = search needs
+
+same-length-5 : tie.Need-same-length-5
+same-length-5 c = search needs
+
+returns-2 : tie.Need-returns-2
+returns-2 c =
+    let a = c .before .before .before .before .before .before .before .before .before .before .before .before .before .before .before .before .before .before .before .before .before .before .args in
+    let read = c .before .before .before .before .before .before .before .before .before .before .before .before .before .read in
+    let rows = c .before .before .before .before .before .before .before .count .given in
+    let found = read-found (a .input .now) (a .start) Listing (a .listing-depths .now) (a .listing-labels .now) (read .ensures .0) listingRows (c .before .before .before .before .before .before .before .before .before .before .before .before .before .before .before .before .before .before .before .before .before .before .pre .0 .0) (c .before .before .before .before .before .before .before .before .before .before .before .before .before .before .before .before .before .before .before .before .before .before .pre .0 .1) (rows .1) in
+    let depths = depths-taken (a .input .now) (a .start) _ _ (a .listing-depths .now) (read .last .1 .1 .1 .0) (rows .1) (read .ensures .1 .0) in
+    let labels = labels-taken (a .input .now) (a .start) _ _ (a .listing-labels .now) (read .last .1 .1 .1 .1 .0) (rows .1) (read .ensures .1 .1) in
+    rw found (rw (depths, labels) at (c .before .before .of-tables .ensures))
+
+pub of-listing-spec : {M : Type 1} → statement M
+of-listing-spec =
+    tie.close
+    (tie.spec
+    read-requires
+    enum-known-refusal
+    refused-parcel-requires
+    enum-known-count
+    slice-reshare-prefix-of-tables
+    slice-aggregate-of-tables
+    slice-reshare-prefix-of-tables-2
+    slice-aggregate-of-tables-2
+    of-tables-requires
+    same-length
+    same-length-2
+    returns
+    same-length-3
+    same-length-4
+    same-length-5
+    returns-2)
