@@ -10,4 +10,5 @@ test:
 	@bash .ci/run
 
 bench:
-	@sh bench/parcels.sh
+	@sh tools/run-c.sh bench/inclusion.c inclusion_bench
+	@sh tools/run-c.sh bench/parcels.c parcel_bench

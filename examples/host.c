@@ -1,7 +1,7 @@
 /* A small archiver's host: reads a file that holds a recipe's parcel followed by a listing's, asks
  * once, and acts on the three kinds of line.
  *
- *     cc -Iinclude examples/host.c -lpolashvek -o host && ./host question.parcels
+ *     rt staticlib host && cc -Iinclude examples/host.c target/staticlib/libhost.a -o host && ./host question.parcels
  *
  * Exit status: 0 release, 1 hold (the run is not whole), 2 refused or no file. */
 #include <inttypes.h>

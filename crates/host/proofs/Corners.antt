@@ -6,7 +6,7 @@ use Prim.Native.Nat.{ℕ, zero, suc, _+_, _-_, _≤_}
 use native.Mathlib.Omega.{arith}
 use lib.Dec.{eqb}
 use lib.ListN.{length, drop, length-drop}
-use Rattle.rows.specs.Rows.{depth, descendants}
+use Rattle.rows.specs.Rows.{depth}
 use Rattle.rows.proofs.DescendantLaws.{descendants-within}
 use Rattle.matching.specs.Family.{descent, leftLeaf}
 use Rattle.matching.specs.Corner.{cornerEnd, CornerIs, WholeCorner}

@@ -6,3 +6,4 @@ pub mod Places
 pub mod Corners
 pub mod Longest
 pub mod OneLine
+pub mod LongInput

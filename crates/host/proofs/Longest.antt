@@ -1,14 +1,13 @@
 -- The longest line: no line of an input has more than 1,295 bytes. Assumes nothing.
-use mathlib.Core.Path.{_≡_, refl, sym, ap, _∙_}
+use mathlib.Core.Path.{_≡_, refl, ap}
 use mathlib.Core.Bool.{Bool, true, false}
-use mathlib.Core.List.{List, [], _∷_, _++_}
-use Prim.Native.Nat.{ℕ, zero, suc, _+_, _*_, _^_, _≤_, _<_}
+use mathlib.Core.List.{List, [], _∷_}
+use Prim.Native.Nat.{ℕ, suc, _^_, _≤_, _<_}
 use native.Mathlib.Omega.{arith}
 use lib.Dec.{ltb}
 use lib.ListN.{length, take, drop, getD, length-append}
 use lib.Seq.{take-at}
 use Rattle.rows.specs.Limits.{recipeRows, listingRows}
-use Rattle.rows.specs.Embedding.{SameLabel}
 use Rattle.parcels.specs.Read.{depthsAt, depthsIn, labelsIn}
 use Rattle.parcels.specs.Refusals.{numberOf, placeOf}
 use Rattle.parcels.specs.declared.Limit.the-variants.{Recipe, Listing}
@@ -22,7 +21,7 @@ use Rattle.matching.specs.Refusals.{refusalNumber, refusalPlace}
 use Rattle.matching.specs.declared.Answer.{Answer}
 use Rattle.matching.specs.declared.Answer.the-variants as answer
 use Rattle.matching.specs.declared.Corner.{Corner}
-use Rattle.host.specs.Line.{digits, spaced, line, includedWord, absentWord, refusedWord}
+use Rattle.host.specs.Line.{spaced, line, includedWord, absentWord, refusedWord}
 use Rattle.host.specs.Outcome.{zeros, recipeRead, listingRead, outcomeOf, RefusedAs, FromTables, FromListing, FromRecipe, Said}
 use Rattle.host.specs.Host.{lineOf, imagesOf, answerBytes, LineIs, Entered, Entry}
 use Rattle.host.specs.declared.outcome.Outcome.{Outcome}

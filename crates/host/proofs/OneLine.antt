@@ -1,8 +1,12 @@
 -- One input has one line, and one call of the C entry one outcome. Assumes nothing.
-use mathlib.Core.Path.{_≡_, refl, sym, ap, _∙_}
+use mathlib.Core.Path.{_≡_, sym, ap, _∙_}
 use mathlib.Core.Bool.{Bool, true, false}
 use mathlib.Core.List.{List, _++_}
 use Prim.Native.Nat.{ℕ}
+use contract.Lifetimes.{Lfts}
+use denote.Ref.{now}
+use denote.Triple.Clauses.{AtExit}
+use borrow.Fn.Kinds.{Dens, resT, endedOf}
 use lib.Dec.{ltb}
 use lib.ListN.{length, drop}
 use Rattle.rows.specs.Limits.{recipeRows}
@@ -12,6 +16,8 @@ use Rattle.matching.proofs.AnswerLaws.{answer-one}
 use Rattle.host.specs.Outcome.{zeros, recipeRead, listingRead, outcomeOf, RefusedAs, FromTables, FromListing, FromRecipe, Said}
 use Rattle.host.specs.Host.{lineOf, answerBytes, LineIs, Entered, Entry}
 use Rattle.host.specs.declared.outcome.Outcome.{Outcome}
+use Rattle.host.proofs.polashvek_answer.Kinds as entry
+use Rattle.host.proofs.polashvek_answer.Reads as entry-contract
 
 -- two outcomes with their maps
 module _ (o p : Outcome) (m k : List ℕ) where
@@ -51,3 +57,8 @@ entry-one input before r s x y e d = go (ltb (length before) answerBytes) (e .by
     go false f g =
         let same = line-one input (f .bytes) (g .bytes) (f .line) (g .line) in
         (f .count ∙ ap length same ∙ sym (g .count), f .stored ∙ ap (λ (l : List ℕ). l ++ drop (length l) before) same ∙ sym (g .stored))
+
+-- so two outcomes that meet the contract of `polashvek_answer` are equal: the answer, and every byte of the buffer
+pub one-answer : (κs : Lfts 2) (args : Dens κs entry.ps) (r s : resT entry.r κs .Denot) (x y : AtExit (endedOf 2 entry.ps entry.r) κs)
+    → entry-contract.Post κs args r x → entry-contract.Post κs args s y → (r ≡ s) × (now (x .1 .0) ≡ now (y .1 .0))
+one-answer κs args r s x y p q = entry-one (now (args .0)) (now (args .1 .0)) r s (now (x .1 .0)) (now (y .1 .0)) p q

@@ -1,8 +1,7 @@
 -- Bytes put one after the other. Assumes nothing.
 use mathlib.Core.Path.{_≡_, refl, sym, ap, _∙_}
 use mathlib.Core.List.{List, [], _∷_, _++_, append-assoc}
-use Prim.Native.Nat.{ℕ, zero, suc, _+_, _/_, _%_, _<_, _≤_}
-use native.Mathlib.Nat.{add-zero}
+use Prim.Native.Nat.{ℕ, suc, _+_, _/_, _%_, _<_, _≤_}
 use native.Mathlib.Numerals.{add-one}
 use native.Mathlib.Omega.{arith}
 use lib.ListN.{length, drop, getD, set, length-append, drop-of-length-le}
@@ -12,10 +11,7 @@ use Rattle.host.specs.Line.{digit, space, newline, digits, spaced, line}
 use Rattle.host.specs.Put.{Put}
 use Rattle.host.proofs.Digits.{digits-small, digits-large}
 
--- nothing, and one byte
-pub put-none : (a : List ℕ) (i : ℕ) → Put a i [] a i
-put-none a i = record { stored = refl; place = sym (add-zero i) }
-
+-- one byte
 pub put-one : (a : List ℕ) (i x : ℕ) → Put a i (x ∷ []) (set a i x) (i + 1)
 put-one a i x = record { stored = refl; place = refl }
 

@@ -1,13 +1,13 @@
 -- What reading gives: the same answer for any row slices of one length, and the rows in the first slots. Assumes nothing.
-use mathlib.Core.Path.{_≡_, refl, sym, ap, _∙_}
-use mathlib.Core.List.{List, _++_}
+use mathlib.Core.Path.{_≡_, sym, _∙_}
+use mathlib.Core.List.{List}
 use Prim.Native.Nat.{ℕ, _≤_}
-use lib.ListN.{length, take, drop, replicate, length-replicate}
+use lib.ListN.{length, take, drop, length-replicate}
 use lib.Seq.{take-at}
 use Rattle.parcels.specs.Read.{readOf, filled, depthsIn, labelsIn}
 use Rattle.parcels.specs.declared.Limit.{Limit}
 use Rattle.parcels.specs.declared.ReadAnswer.{ReadAnswer}
-use Rattle.parcels.specs.declared.ReadAnswer.the-variants.{Rows, Refused}
+use Rattle.parcels.specs.declared.ReadAnswer.the-variants.{Rows}
 use Rattle.parcels.proofs.LittleEndian.{numbers-length}
 use Rattle.parcels.proofs.Accepting.{accepted}
 use Rattle.host.specs.Outcome.{zeros}

@@ -115,7 +115,9 @@ fn of_tables(
     map: &mut [u16],
 ) -> Outcome
     requires { ⌜ now map ≡ zeros recipeRows ⌝ }
-    ensures { λ r. ⌜ FromTables (now («recipe_depths» .entry)) (now («recipe_labels» .entry)) (now («listing_depths» .entry)) (now («listing_labels» .entry)) end (ltb end (length (now (input .entry)))) r (now (map .exit)) ⌝ }
+    ensures { λ r.
+        ⌜ FromTables (now («recipe_depths» .entry)) (now («recipe_labels» .entry)) (now («listing_depths» .entry)) (now («listing_labels» .entry)) end
+        (ltb end (length (now (input .entry)))) r (now (map .exit)) ⌝ }
 {
     if end < input.len() {
         return Outcome::Refused(15, end);
@@ -142,7 +144,9 @@ fn of_listing(
 ) -> Outcome
     requires { ⌜ (length (now «listing_depths») ≡ listingRows) × (length (now «listing_labels») ≡ listingRows) ⌝ }
     requires { ⌜ now map ≡ zeros recipeRows ⌝ }
-    ensures { λ r. ⌜ FromListing (now (input .entry)) (now («recipe_depths» .entry)) (now («recipe_labels» .entry)) start (listingRead (now (input .entry)) start) r (now (map .exit)) ⌝ }
+    ensures { λ r.
+        ⌜ FromListing (now (input .entry)) (now («recipe_depths» .entry)) (now («recipe_labels» .entry)) start
+        (listingRead (now (input .entry)) start) r (now (map .exit)) ⌝ }
 {
     match parcels::read(input, start, Limit::Listing, listing_depths, listing_labels) {
         ReadAnswer::Refused(refusal) => refused_parcel(refusal),

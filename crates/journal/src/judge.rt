@@ -1,6 +1,6 @@
 // Which refusal, if any, in document 01's order.
 ghost use mathlib.Core.Path.{_≡_};
-ghost use Prim.Native.Nat.{ℕ, suc, _+_, _-_, _≤_};
+ghost use Prim.Native.Nat.{suc, _+_, _-_, _≤_};
 ghost use lib.ListN.{length, drop};
 ghost use Rattle.rows.specs.Limits.{deepest};
 ghost use Rattle.rows.specs.Rows.{WellFormed};

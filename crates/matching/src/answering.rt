@@ -5,7 +5,7 @@ ghost use mathlib.Core.Logic.{_↔_};
 ghost use Prim.Native.Nat.{_<_, _≤_};
 ghost use lib.Dec.{eqb};
 ghost use lib.ListN.{length};
-ghost use Rattle.rows.specs.Rows.{counted, depth};
+ghost use Rattle.rows.specs.Rows.{counted};
 ghost use Rattle.rows.specs.Forest.{forest};
 ghost use Rattle.matching.specs.Answer.{Answers};
 ghost use Rattle.matching.specs.CornerRow.{place, widthAt, rowAt};

@@ -10,7 +10,7 @@ ghost use Rattle.matching.specs.CornerRow.{closeRow, joinRow};
 ghost use Rattle.matching.specs.Shape.{Shape, word};
 ghost use Rattle.matching.specs.Asked.{chain, noted};
 ghost use Rattle.matching.specs.Engine.{Ready, Begins, Ends, cornerOf, withTree};
-ghost use Rattle.matching.specs.Room.{roomWords, recipeOf, named, alone, following, Written, closed, joined, joinedAlone, Joins, JoinsAlone};
+ghost use Rattle.matching.specs.Room.{roomWords, recipeOf, named, following, Written, closed, joined, joinedAlone, Joins, JoinsAlone};
 use crate::asked::extend;
 use crate::asked::wide;
 use crate::shape::depth_of;

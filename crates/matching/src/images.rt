@@ -1,6 +1,6 @@
 // The map of earliest close: an image for each recipe row, in row order.
 ghost use mathlib.Core.Path.{_≡_};
-ghost use Prim.Native.Nat.{suc, _≤_};
+ghost use Prim.Native.Nat.{_≤_};
 ghost use lib.ListN.{length, take, drop};
 ghost use Rattle.rows.specs.Limits.{listingRows};
 ghost use Rattle.rows.specs.Rows.{at, lastRow};

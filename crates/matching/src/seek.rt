@@ -1,6 +1,6 @@
 // Where a recipe row goes: the first to close of the listing rows in its window that hold it with all its descendants.
 ghost use mathlib.Core.Path.{_≡_};
-ghost use Prim.Native.Nat.{suc, _<_, _≤_};
+ghost use Prim.Native.Nat.{suc, _<_};
 ghost use lib.ListN.{length};
 ghost use Rattle.rows.specs.Rows.{Row, lastRow};
 ghost use Rattle.rows.specs.Forest.{below};

@@ -7,9 +7,9 @@ use native.Mathlib.Omega.{arith}
 use native.Mathlib.Decide.{decLt, decLe}
 use lib.Dec.{leb, ltb}
 use lib.ListN.{length}
-use borrow.Author.Tests.{ltb-true, leb-true, lt-ltb, le-ltb, le-leb}
-use Rattle.rows.specs.Rows.{Row, depth, Outline, lastRow, Ancestor, isAncestor, tally, ancestors}
-use Rattle.rows.proofs.Depths.{after-shallow, inside-deeper, last-fits}
+use borrow.Author.Tests.{ltb-true, leb-true, lt-ltb, le-leb}
+use Rattle.rows.specs.Rows.{Row, depth, Outline, lastRow, isAncestor, tally, ancestors}
+use Rattle.rows.proofs.Depths.{after-shallow, inside-deeper}
 use Rattle.rows.proofs.Order.{window}
 use Rattle.rows.proofs.Tests.{both-true, same-test, ancestor-test, tally-true, tally-false, tally-same, tally-none}
 

@@ -1,18 +1,18 @@
 -- An embedding by rows is an inclusion of forests, and back. Assumes nothing.
-use mathlib.Core.Path.{_≡_, refl, sym, ap, ap₂, subst₂, _∙_}
-use mathlib.Core.Bool.{Bool, true, false}
+use mathlib.Core.Path.{_≡_, refl, sym, ap, subst₂, _∙_}
+use mathlib.Core.Bool.{true, false}
 use mathlib.Core.List.{List, [], _∷_}
 use mathlib.Core.Logic.{_↔_}
 use Prim.Native.Nat.{ℕ, zero, suc, _+_, _-_, _≤_, _<_}
 use native.Mathlib.Omega.{arith}
 use native.Mathlib.Decide.{decLe}
 use lib.Dec.{leb}
-use lib.ListN.{length, getD}
+use lib.ListN.{length}
 use borrow.Author.Tests.{le-leb, lt-leb}
-use Rattle.rows.specs.Rows.{at, Row, Outline, lastRow, closing, Ancestor, LeftOf}
+use Rattle.rows.specs.Rows.{at, Row, Outline, lastRow, Ancestor, LeftOf}
 use Rattle.rows.specs.Forest.{Forest, nil, cons, size, beside, forest}
 use Rattle.rows.specs.Stands.{Stands, Among}
-use Rattle.rows.specs.Embedding.{Embeds, Embedding, Included, LiesIn, done, pair, skip}
+use Rattle.rows.specs.Embedding.{Embeds, Included, LiesIn, done, pair, skip}
 use Rattle.rows.proofs.Depths.{inside-ends}
 use Rattle.rows.proofs.Order.{Compared, less, same, more, compared, Apart, above, below, before, behind, apart, Later, in-tree, past-tree, later, window, behind-window}
 use Rattle.rows.proofs.Flat.{size-beside}

@@ -1,14 +1,14 @@
 -- Ancestors and left-of: by the window of a tree's rows, and of two rows just one of the four. Assumes nothing.
-use mathlib.Core.Path.{_≡_, refl, sym, ap, _∙_}
+use mathlib.Core.Path.{_≡_, ap}
 use mathlib.Core.Logic.{_↔_}
 use mathlib.Core.List.{List}
 use mathlib.Core.HLevel.{×₃-prop}
-use Prim.Native.Nat.{ℕ, zero, suc, _+_, _-_, _≤_, _<_}
+use Prim.Native.Nat.{ℕ, suc, _+_, _-_, _≤_, _<_}
 use native.Mathlib.Bridge.{le-prop}
 use native.Mathlib.Omega.{arith}
 use native.Mathlib.Decide.{decLt, decLe}
 use lib.ListN.{length}
-use Rattle.rows.specs.Rows.{Row, depth, Outline, descendants, lastRow, closing, Ancestor, LeftOf}
+use Rattle.rows.specs.Rows.{Row, Outline, lastRow, closing, Ancestor, LeftOf}
 use Rattle.rows.proofs.Depths.{after-shallow, inside-deeper, inside-ends, slope, depth-under}
 
 pub data Compared (u w : ℕ) : Type 0 where

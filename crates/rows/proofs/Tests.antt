@@ -19,12 +19,6 @@ same-test true false f g = sym (f refl)
 same-test false true f g = g refl
 same-test false false f g = refl
 
-pub less-test : (a b : ℕ) → (ltb a b ≡ true) ↔ (a < b)
-less-test a b = (ltb-true a b, lt-ltb a b)
-
-pub most-test : (a b : ℕ) → (leb a b ≡ true) ↔ (a ≤ b)
-most-test a b = (leb-true a b, le-leb a b)
-
 order-test : (u w x y : ℕ) → ((leb 1 u && (ltb u w && ltb x y)) ≡ true) ↔ ((1 ≤ u) × (u < w) × (x < y))
 order-test u w x y = (
   λ e.

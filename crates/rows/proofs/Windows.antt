@@ -4,7 +4,7 @@ use mathlib.Core.List.{List, [], _∷_}
 use Prim.Native.Nat.{ℕ, zero, suc, _+_, _-_, _≤_, _<_}
 use native.Mathlib.Omega.{arith}
 use native.Mathlib.Decide.{decLt, decLe}
-use lib.ListN.{length, getD, drop, length-drop, drop-of-length-le}
+use lib.ListN.{length, getD, drop, drop-of-length-le}
 use lib.Seq.{drop-cons, drop-drop, drop-nil}
 use Rattle.rows.specs.Rows.{Row, depth, Outline, deeper, descendants, lastRow}
 use Rattle.rows.specs.Forest.{Forest, nil, cons, size, grow, numbers, forestAt, forest, below}

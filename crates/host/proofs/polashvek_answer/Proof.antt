@@ -1,3 +1,4 @@
+-- `polashvek_answer` meets its contract: the test of the buffer, then the line. Assumes nothing.
 use mathlib.Core.Path.{refl}
 use borrow.Author.Tests.{lt-ltb, le-ltb}
 use borrow.Author.Needs.{needs}

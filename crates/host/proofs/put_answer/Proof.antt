@@ -1,6 +1,6 @@
+-- `put_answer` meets its contract: what is said of the input fits the buffer, and its line is put at the front. Assumes nothing.
 use mathlib.Core.Path.{refl}
 use native.Mathlib.Omega.{arith}
-use lib.ListN.{length}
 use Rattle.host.specs.Outcome.{zeros}
 use Rattle.host.specs.Host.{lineOf}
 use Rattle.host.proofs.Putting.{put-front}
@@ -33,8 +33,9 @@ slice-aggregate-put-outcome c = search needs
 
 put-outcome-requires : tie.Need-put-outcome-requires
 put-outcome-requires c κs =
-    let said = c .before .before .before .before .before .before .before .of-input in
-    let fits = said-fits (c .before .before .before .before .before .before .before .before .before .before .before .before .before .before .before .args .input .now) (omega arith) (said .result) (said .last .1 .1 .1 .1 .1 .0) (said .ensures) in
+    let call = c .before .before .before .before .before .before .before in
+    let said = call .of-input in
+    let fits = said-fits (call .before .before .before .before .before .before .before .before .args .input .now) (omega arith) (said .result) (said .last .1 .1 .1 .1 .1 .0) (said .ensures) in
     record { fits = omega (arith, fits .0); images = fits .1 }
 
 same-length : tie.Need-same-length

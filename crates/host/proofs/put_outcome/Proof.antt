@@ -1,3 +1,4 @@
+-- `put_outcome` meets its contract: in each arm the line that is put is the outcome's. Assumes nothing.
 use mathlib.Core.Path.{sym}
 use lib.Seq.{length-take-le}
 use borrow.Author.Needs.{needs}
@@ -17,10 +18,14 @@ cast-put-line-2 : tie.Need-cast-put-line-2
 cast-put-line-2 c = search needs
 
 slice-aggregate-put-line-2 : tie.Need-slice-aggregate-put-line-2
-slice-aggregate-put-line-2 c = sym (length-take-le _ _ (rw (c .before .before .before .before .before .before .outcome .given .1) at (c .before .before .before .before .before .before .before .before .before .before .pre .images)))
+slice-aggregate-put-line-2 c =
+    let given = c .before .before .before .before .before .before in
+    sym (length-take-le _ _ (rw (given .outcome .given .1) at (given .before .before .before .before .pre .images)))
 
 put-line-requires : tie.Need-put-line-requires
-put-line-requires c κs = rw (c .before .before .before .before .before .before .outcome .given .1) at (c .before .before .before .before .before .before .before .before .before .before .pre .fits)
+put-line-requires c κs =
+    let given = c .before .before .before .before .before .before in
+    rw (given .outcome .given .1) at (given .before .before .before .before .pre .fits)
 
 enum-known-outcome-2 : tie.Need-enum-known-outcome-2
 enum-known-outcome-2 c = search needs
@@ -38,7 +43,9 @@ slice-aggregate-put-line-4 : tie.Need-slice-aggregate-put-line-4
 slice-aggregate-put-line-4 c = search needs
 
 put-line-requires-2 : tie.Need-put-line-requires-2
-put-line-requires-2 c κs = rw (c .before .before .before .before .before .before .outcome2 .given .1) at (c .before .before .before .before .before .before .before .before .before .before .pre .fits)
+put-line-requires-2 c κs =
+    let given = c .before .before .before .before .before .before in
+    rw (given .outcome2 .given .1) at (given .before .before .before .before .pre .fits)
 
 enum-known-outcome-3 : tie.Need-enum-known-outcome-3
 enum-known-outcome-3 c = search needs
@@ -50,7 +57,9 @@ slice-aggregate-put-line-6 : tie.Need-slice-aggregate-put-line-6
 slice-aggregate-put-line-6 c = search needs
 
 put-line-requires-3 : tie.Need-put-line-requires-3
-put-line-requires-3 c κs = rw (c .before .before .before .before .outcome3 .given .1) at (c .before .before .before .before .before .before .before .before .pre .fits)
+put-line-requires-3 c κs =
+    let given = c .before .before .before .before in
+    rw (given .outcome3 .given .1) at (given .before .before .before .before .pre .fits)
 
 same-length : tie.Need-same-length
 same-length c = search needs

@@ -1,3 +1,4 @@
+-- `line::put_digits` meets its contract. The measure is the number: the call is for its tenth. Assumes nothing.
 use mathlib.Core.Path.{ap}
 use native.Mathlib.Omega.{arith}
 use lib.ListN.{length}

@@ -1,3 +1,4 @@
+-- `line::put_images` meets its contract. The invariant: putting the images that are left gives the whole and ends where it ends. Assumes nothing.
 use mathlib.Core.Path.{_≡_, refl}
 use Prim.Native.Nat.{_≤_, _-_, _+_}
 use native.Mathlib.Omega.{arith}
@@ -32,9 +33,10 @@ cast-put-number c = omega (arith, c .shared-slice-known2 .given (c .before .befo
 put-number-requires : tie.Need-put-number-requires Inv-loop μ-loop
 put-number-requires c κs =
     let head = c .before .before .before in
-    let a = c .before .before .before .before .before .before .args in
+    let a = head .before .before .before .args in
     let end = a .at + length (spaced (a .images .now)) in
-    let fits = number-fits (a .images .now) (a .at) end (sets (a .answer .now) (a .at) (spaced (a .images .now))) (head .loop .answer) (head .loop .next) (head .loop .i) (omega arith) (head .loop .inv .3) in
+    let whole = sets (a .answer .now) (a .at) (spaced (a .images .now)) in
+    let fits = number-fits (a .images .now) (a .at) end whole (head .loop .answer) (head .loop .next) (head .loop .i) (omega arith) (head .loop .inv .3) in
     omega arith
 
 add-i : tie.Need-add-i Inv-loop μ-loop
@@ -45,11 +47,15 @@ loop-less c = search needs
 
 loop-again : tie.Need-loop-again Inv-loop μ-loop
 loop-again c =
-    let head = c .before .before .before .before .before .before in
-    let a = c .before .before .before .before .before .before .before .before .before .args in
-    let call = c .before .before .put-number in
+    let after = c .before .before in
+    let call = after .put-number in
+    let head = after .before .before .before .before in
+    let a = head .before .before .before .args in
     let end = a .at + length (spaced (a .images .now)) in
-    let left = number-turn (a .images .now) (a .at) end (sets (a .answer .now) (a .at) (spaced (a .images .now))) (head .loop .answer) (call .last .0) (head .loop .next) (call .result) (head .loop .i) (omega arith) (head .loop .inv .3) (call .ensures) in
+    let whole = sets (a .answer .now) (a .at) (spaced (a .images .now)) in
+    let left =
+    number-turn (a .images .now) (a .at) end whole (head .loop .answer) (call .last .0) (head .loop .next) (call .result) (head .loop .i) (omega arith)
+    (head .loop .inv .3) (call .ensures) in
     (omega arith, omega arith, omega (arith, call .kept .0), left)
 
 same-length : tie.Need-same-length Inv-loop μ-loop
@@ -58,9 +64,10 @@ same-length c = search needs
 returns : tie.Need-returns Inv-loop μ-loop
 returns c =
     let head = c .before in
-    let a = c .before .before .before .before .args in
+    let a = head .before .before .before .args in
     let end = a .at + length (spaced (a .images .now)) in
-    let all = number-stop (a .images .now) (a .at) end (sets (a .answer .now) (a .at) (spaced (a .images .now))) (head .loop .answer) (head .loop .next) (head .loop .i) (omega arith) (head .loop .inv .3) in
+    let whole = sets (a .answer .now) (a .at) (spaced (a .images .now)) in
+    let all = number-stop (a .images .now) (a .at) end whole (head .loop .answer) (head .loop .next) (head .loop .i) (omega arith) (head .loop .inv .3) in
     record { stored = all .0; place = all .1 }
 
 pub put-images-spec : {M : Type 1} → statement M

@@ -1,9 +1,8 @@
-use mathlib.Core.Path.{_∙_}
+-- `line::put_line` meets its contract: its parts, each behind the one before, are the line. Assumes nothing.
 use native.Mathlib.Omega.{arith}
-use lib.ListN.{length, length-set}
+use lib.ListN.{length-set}
 use Rattle.host.specs.Line.{newline}
 use Rattle.host.proofs.Putting.{put-one, put-then, line-parts, line-length}
-use borrow.Author.Needs.{needs}
 use Rattle.host.proofs.line.put_line.Statement.{statement}
 use Rattle.host.proofs.line.put_line.Tie as tie
 
@@ -66,11 +65,15 @@ same-length c =
 
 returns : tie.Need-returns
 returns c =
-    let a = c .before .before .before .before .before .before .before .before .before .before .before .before .before .before .before .before .before .before .before .args in
-    let i = c .before .before .put-images in
-    let two = put-then (c .before .before .before .before .before .before .before .before .before .before .before .before .before .before .put-word .ensures) (c .before .before .before .before .before .before .before .before .before .before .put-number .ensures) in
-    let four = put-then (put-then two (c .before .before .before .before .before .before .put-number2 .ensures)) (i .ensures) in
-    rw (line-parts (a .word .now) (a .first) (a .second) (a .images .now)) (put-then four (put-one (i .last .0) (i .result) newline))
+    let images = c .before .before in
+    let second = images .before .before .before .before in
+    let first = second .before .before .before .before in
+    let word = first .before .before .before .before in
+    let a = word .before .before .before .before .before .args in
+    let i = images .put-images in
+    let numbers = put-then (put-then (word .put-word .ensures) (first .put-number .ensures)) (second .put-number2 .ensures) in
+    let whole = put-then (put-then numbers (i .ensures)) (put-one (i .last .0) (i .result) newline) in
+    rw (line-parts (a .word .now) (a .first) (a .second) (a .images .now)) whole
 
 pub put-line-spec : {M : Type 1} → statement M
 put-line-spec =

@@ -1,5 +1,6 @@
+-- `line::put_number` meets its contract: one byte, and the digits behind it. Assumes nothing.
 use native.Mathlib.Omega.{arith}
-use lib.ListN.{length, length-set}
+use lib.ListN.{length-set}
 use Rattle.host.specs.Line.{space}
 use Rattle.host.proofs.Putting.{put-one, put-then}
 use borrow.Author.Needs.{needs}
@@ -20,7 +21,10 @@ same-length : tie.Need-same-length
 same-length c = let e = c .before .before .put-digits .kept .0 in simp length-set at e
 
 returns : tie.Need-returns
-returns c = put-then (put-one (c .before .before .before .before .before .args .answer .now) (c .before .before .before .before .before .args .at) space) (c .before .before .put-digits .ensures)
+returns c =
+    let call = c .before .before in
+    let a = call .before .before .before .args in
+    put-then (put-one (a .answer .now) (a .at) space) (call .put-digits .ensures)
 
 pub put-number-spec : {M : Type 1} → statement M
 put-number-spec =

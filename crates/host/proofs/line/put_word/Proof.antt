@@ -1,3 +1,4 @@
+-- `line::put_word` meets its contract. The invariant: putting the bytes that are left gives the whole. Assumes nothing.
 use native.Mathlib.Nat.{add-zero}
 use Rattle.host.proofs.Putting.{word-turn, word-stop}
 use mathlib.Core.Path.{_≡_, refl}

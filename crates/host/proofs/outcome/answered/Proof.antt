@@ -1,3 +1,4 @@
+-- `outcome::answered` meets its contract: in each arm `outcomeOf` computes. Assumes nothing.
 use borrow.Author.Needs.{needs}
 use Rattle.host.proofs.outcome.answered.Statement.{statement}
 use Rattle.host.proofs.outcome.answered.Tie as tie

@@ -1,6 +1,6 @@
+-- `outcome::of_input` meets its contract: reading counts by the slices' lengths alone, and the rows read are the first slots. Assumes nothing.
 use mathlib.Core.Path.{sym}
 use native.Mathlib.Omega.{arith}
-use lib.ListN.{length}
 use lib.Seq.{length-take-le}
 use Rattle.rows.specs.Limits.{recipeRows}
 use Rattle.parcels.specs.declared.Limit.the-variants.{Recipe}
@@ -23,31 +23,35 @@ enum-known-count c = search needs
 
 slice-reshare-prefix-of-listing : tie.Need-slice-reshare-prefix-of-listing
 slice-reshare-prefix-of-listing c =
-    let a = c .before .before .before .before .before .before .before .before .before .before .before .before .before .before .before .before .args in
-    let read = c .before .before .before .before .before .before .before .read in
-    let fits = rows-fit (a .input .now) 0 Recipe (a .recipe-depths .now) (a .recipe-labels .now) (read .ensures .0) _ _ (c .before .count .given .1) in
-    omega (arith, fits .0, read .kept .1 .1 .1 .0)
+    let rows = c .before in
+    let read = rows .before .before .before .before .before .before in
+    let a = read .before .before .before .before .before .before .before .before .before .args in
+    let fits = rows-fit (a .input .now) 0 Recipe (a .recipe-depths .now) (a .recipe-labels .now) (read .read .ensures .0) _ _ (rows .count .given .1) in
+    omega (arith, fits .0, read .read .kept .1 .1 .1 .0)
 
 slice-aggregate-of-listing : tie.Need-slice-aggregate-of-listing
 slice-aggregate-of-listing c =
-    let a = c .before .before .before .before .before .before .before .before .before .before .before .before .before .before .before .before .before .args in
-    let read = c .before .before .before .before .before .before .before .before .read in
-    let fits = rows-fit (a .input .now) 0 Recipe (a .recipe-depths .now) (a .recipe-labels .now) (read .ensures .0) _ _ (c .before .before .count .given .1) in
-    sym (length-take-le _ _ (omega (arith, fits .0, read .kept .1 .1 .1 .0)))
+    let rows = c .before .before in
+    let read = rows .before .before .before .before .before .before in
+    let a = read .before .before .before .before .before .before .before .before .before .args in
+    let fits = rows-fit (a .input .now) 0 Recipe (a .recipe-depths .now) (a .recipe-labels .now) (read .read .ensures .0) _ _ (rows .count .given .1) in
+    sym (length-take-le _ _ (omega (arith, fits .0, read .read .kept .1 .1 .1 .0)))
 
 slice-reshare-prefix-of-listing-2 : tie.Need-slice-reshare-prefix-of-listing-2
 slice-reshare-prefix-of-listing-2 c =
-    let a = c .before .before .before .before .before .before .before .before .before .before .before .before .before .before .before .before .before .args in
-    let read = c .before .before .before .before .before .before .before .before .read in
-    let fits = rows-fit (a .input .now) 0 Recipe (a .recipe-depths .now) (a .recipe-labels .now) (read .ensures .0) _ _ (c .before .before .count .given .1) in
-    omega (arith, fits .1, read .kept .1 .1 .1 .1 .0)
+    let rows = c .before .before in
+    let read = rows .before .before .before .before .before .before in
+    let a = read .before .before .before .before .before .before .before .before .before .args in
+    let fits = rows-fit (a .input .now) 0 Recipe (a .recipe-depths .now) (a .recipe-labels .now) (read .read .ensures .0) _ _ (rows .count .given .1) in
+    omega (arith, fits .1, read .read .kept .1 .1 .1 .1 .0)
 
 slice-aggregate-of-listing-2 : tie.Need-slice-aggregate-of-listing-2
 slice-aggregate-of-listing-2 c =
-    let a = c .before .before .before .before .before .before .before .before .before .before .before .before .before .before .before .before .before .before .args in
-    let read = c .before .before .before .before .before .before .before .before .before .read in
-    let fits = rows-fit (a .input .now) 0 Recipe (a .recipe-depths .now) (a .recipe-labels .now) (read .ensures .0) _ _ (c .before .before .before .count .given .1) in
-    sym (length-take-le _ _ (omega (arith, fits .1, read .kept .1 .1 .1 .1 .0)))
+    let rows = c .before .before .before in
+    let read = rows .before .before .before .before .before .before in
+    let a = read .before .before .before .before .before .before .before .before .before .args in
+    let fits = rows-fit (a .input .now) 0 Recipe (a .recipe-depths .now) (a .recipe-labels .now) (read .read .ensures .0) _ _ (rows .count .given .1) in
+    sym (length-take-le _ _ (omega (arith, fits .1, read .read .kept .1 .1 .1 .1 .0)))
 
 of-listing-requires : tie.Need-of-listing-requires
 of-listing-requires c κs = search needs
@@ -60,9 +64,13 @@ same-length-2 c = search needs
 
 returns : tie.Need-returns
 returns c =
-    let a = c .before .before .before .before .before .before .before .before .before .before .before .before .before .before .before .before .before .args in
-    let found = read-found (a .input .now) 0 Recipe (a .recipe-depths .now) (a .recipe-labels .now) (c .before .before .before .before .before .before .before .before .read .ensures .0) recipeRows (c .before .before .before .before .before .before .before .before .before .before .before .before .before .before .before .before .before .pre .0 .0) (c .before .before .before .before .before .before .before .before .before .before .before .before .before .before .before .before .before .pre .0 .1) (c .before .before .refusal .given .1) in
-    record { by-reading = rw found (c .refused-parcel .ensures, c .before .before .before .before .before .before .before .before .before .before .before .before .before .before .before .before .before .pre .1 .1) }
+    let read = c .before .before .before .before .before .before .before .before in
+    let start = read .before .before .before .before .before .before .before .before .before in
+    let a = start .args in
+    let found =
+    read-found (a .input .now) 0 Recipe (a .recipe-depths .now) (a .recipe-labels .now) (read .read .ensures .0)
+    recipeRows (start .pre .0 .0) (start .pre .0 .1) (c .before .before .refusal .given .1) in
+    record { by-reading = rw found (c .refused-parcel .ensures, start .pre .1 .1) }
 
 same-length-3 : tie.Need-same-length-3
 same-length-3 c = search needs
@@ -81,13 +89,18 @@ same-length-7 c = search needs
 
 returns-2 : tie.Need-returns-2
 returns-2 c =
-    let a = c .before .before .before .before .before .before .before .before .before .before .before .before .before .before .before .before .before .before .before .before .before .before .before .before .before .before .before .before .args in
-    let read = c .before .before .before .before .before .before .before .before .before .before .before .before .before .before .before .before .before .before .before .read in
-    let rows = c .before .before .before .before .before .before .before .before .before .before .before .before .before .count .given in
-    let found = read-found (a .input .now) 0 Recipe (a .recipe-depths .now) (a .recipe-labels .now) (read .ensures .0) recipeRows (c .before .before .before .before .before .before .before .before .before .before .before .before .before .before .before .before .before .before .before .before .before .before .before .before .before .before .before .before .pre .0 .0) (c .before .before .before .before .before .before .before .before .before .before .before .before .before .before .before .before .before .before .before .before .before .before .before .before .before .before .before .before .pre .0 .1) (rows .1) in
-    let depths = depths-taken (a .input .now) 0 _ _ (a .recipe-depths .now) (read .last .1 .1 .1 .0) (rows .1) (read .ensures .1 .0) in
-    let labels = labels-taken (a .input .now) 0 _ _ (a .recipe-labels .now) (read .last .1 .1 .1 .1 .0) (rows .1) (read .ensures .1 .1) in
-    record { by-reading = rw found (rw (depths, labels) at (c .before .before .before .before .before .before .of-listing .ensures)) }
+    let call = c .before .before .before .before .before .before in
+    let rows = call .before .before .before .before .before .before .before in
+    let read = rows .before .before .before .before .before .before in
+    let start = read .before .before .before .before .before .before .before .before .before in
+    let a = start .args in
+    let e = rows .count .given .1 in
+    let found =
+    read-found (a .input .now) 0 Recipe (a .recipe-depths .now) (a .recipe-labels .now) (read .read .ensures .0)
+    recipeRows (start .pre .0 .0) (start .pre .0 .1) e in
+    let depths = depths-taken (a .input .now) 0 _ _ (a .recipe-depths .now) (read .read .last .1 .1 .1 .0) e (read .read .ensures .1 .0) in
+    let labels = labels-taken (a .input .now) 0 _ _ (a .recipe-labels .now) (read .read .last .1 .1 .1 .1 .0) e (read .read .ensures .1 .1) in
+    record { by-reading = rw found (rw (depths, labels) at (call .of-listing .ensures)) }
 
 pub of-input-spec : {M : Type 1} → statement M
 of-input-spec =

@@ -1,3 +1,4 @@
+-- `outcome::of_tables` meets its contract: the test for bytes after the listing, then the inclusion answer. Assumes nothing.
 use mathlib.Core.Path.{refl}
 use borrow.Author.Tests.{lt-ltb, le-ltb}
 use borrow.Author.Needs.{needs}
@@ -17,7 +18,10 @@ same-length : tie.Need-same-length
 same-length c = search needs
 
 returns-2 : tie.Need-returns-2
-returns-2 c = rw (le-ltb _ _ (c .before .before .before .before .before .if1 .left)) (c .before .before .before .include .result, rw (c .before .before .before .before .before .before .before .before .before .before .before .before .pre) at (c .before .before .before .include .ensures), c .answered .ensures)
+returns-2 c =
+    let call = c .before .before .before in
+    let start = call .before .before .before .before .before .before .before .before .before in
+    rw (le-ltb _ _ (call .before .before .if1 .left)) (call .include .result, rw (start .pre) at (call .include .ensures), c .answered .ensures)
 
 pub of-tables-spec : {M : Type 1} → statement M
 of-tables-spec =

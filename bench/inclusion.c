@@ -1,0 +1,280 @@
+/* Times the proved inclusion call beside two programs in C, in one run: the same algorithm, and the table of Kilpelainen and Mannila
+   (yes or no alone). Each turn times all three on a case, and the best turn of each counts. Prints microseconds and ratios. */
+typedef unsigned short u16;
+typedef unsigned int u32;
+typedef unsigned long u64;
+
+struct timespec { long seconds, nanoseconds; };
+int clock_gettime(int clock, struct timespec *time);
+int printf(const char *format, ...);
+int memcmp(const void *a, const void *b, u64 size);
+
+u64 inclusion_bench_include(const u16 *listing_depths, u64 a, const u32 *listing_labels, u64 b, const u16 *recipe_depths, u64 c,
+                            const u32 *recipe_labels, u64 d, u16 *map, u64 e);
+
+enum { LISTING = 4096, RECIPE = 256, DEEPEST = 63, TURNS = 15, ROOM = 14592 };
+
+static u16 td[LISTING], rd[RECIPE], map[RECIPE], map_c[RECIPE];
+static u32 tl[LISTING], rl[RECIPE];
+static int n, m; /* rows of the listing, rows of the recipe */
+static u32 seed;
+
+static u32 next(u32 below)
+{
+    seed = seed * 1664525u + 1013904223u;
+    return (seed >> 8) % below;
+}
+
+/* ---- the same algorithm: corners of the chains asked, then the map by going down ---- */
+static u16 parent[RECIPE + 1], right[RECIPE + 1], left[RECIPE + 1], leaf[RECIPE + 1], deep[RECIPE + 1];
+static u16 asked[RECIPE], place[RECIPE + 1], room[ROOM];
+static u16 last[LISTING + 1];
+
+static void build(void)
+{
+    u16 open[DEEPEST + 2] = {0}, before[DEEPEST + 2] = {0};
+    for (int v = 1; v <= m; v++) {
+        int d = rd[v - 1];
+        parent[v] = d ? open[d - 1] : 0;
+        left[v] = before[d];
+        if (left[v]) right[left[v]] = (u16)v;
+        right[v] = 0, deep[v] = (u16)d;
+        open[d] = before[d] = (u16)v, before[d + 1] = 0;
+    }
+    for (int v = m; v; v--)
+        leaf[v] = v < m && rd[v] > rd[v - 1] ? leaf[v + 1] : (u16)v;
+}
+
+static u16 close_row(u32 name, u16 x, u16 w)
+{
+    if (w == 0) return rl[leaf[x] - 1] == name ? leaf[x] : 0;
+    if (deep[w] == deep[x] || right[w]) return w;
+    u16 v = parent[w];
+    return rl[v - 1] == name ? v : w;
+}
+
+static u16 join_row(u16 a, u16 b, u16 w)
+{
+    if (a == 0) return b;
+    if (b && deep[b] < deep[a]) return b;
+    return w && deep[w] == deep[a] ? w : a;
+}
+
+static int forest_corners(int base, int q, int first);
+
+static int tree_corners(int base, int q, int first)
+{
+    u32 name = tl[first];
+    if (first + 1 >= n || td[first + 1] <= td[first]) {
+        for (int i = 0; i < q; i++) {
+            u16 a = room[base + i], y = right[a];
+            room[base + i] = join_row(a, close_row(name, asked[i], 0), y ? close_row(name, y, 0) : 0);
+        }
+        return first + 1;
+    }
+    int z = q;
+    for (int i = 0; i < q; i++) {
+        u16 y = right[room[base + i]];
+        if (y && !(place[y] < z && asked[place[y]] == y)) asked[z] = y, place[y] = (u16)z++;
+    }
+    int end = forest_corners(base + q, z, first + 1);
+    for (int i = 0; i < z; i++)
+        room[base + q + i] = close_row(name, asked[i], room[base + q + i]);
+    for (int i = 0; i < q; i++) {
+        u16 a = room[base + i], y = right[a];
+        room[base + i] = join_row(a, room[base + q + i], y ? room[base + q + place[y]] : 0);
+    }
+    return end;
+}
+
+static int forest_corners(int base, int q, int first)
+{
+    for (int i = 0; i < q; i++)
+        room[base + i] = 0;
+    int at = first;
+    while (at < n && td[at] >= td[first])
+        at = tree_corners(base, q, at);
+    return at;
+}
+
+static u16 seek(u16 v, int lo, int hi)
+{
+    while (lo <= hi) {
+        u16 below = 0;
+        int end = lo;
+        if (lo < n && td[lo] > td[lo - 1]) {
+            asked[0] = v, place[v] = 0;
+            end = forest_corners(0, 1, lo);
+            below = room[0];
+        }
+        if (below && deep[below] == deep[v]) {
+            hi = end, lo++;
+            continue;
+        }
+        u16 tree = close_row(tl[lo - 1], v, below);
+        if (tree && deep[tree] == deep[v]) return (u16)lo;
+        lo = end + 1;
+    }
+    return 0;
+}
+
+__attribute__((noinline)) static u64 same(void)
+{
+    build();
+    room[0] = 0;
+    if (n) asked[0] = 1, place[1] = 0, forest_corners(0, 1, 0);
+    u16 w = room[0];
+    if (w == 0) return 2 * (u64)leaf[1];
+    u64 width = 0;
+    for (u16 u = w; u; u = left[u])
+        width++;
+    if (deep[w] || right[w]) return 2 * (65536 * width + parent[w]);
+    for (int t = n; t; t--) {
+        int e = t;
+        while (e < n && td[e] > td[t - 1])
+            e = last[e + 1];
+        last[t] = (u16)e;
+    }
+    for (u16 v = 1; v <= m; v++) {
+        int in = parent[v] ? map_c[parent[v] - 1] : 0, to = in ? last[in] : n;
+        map_c[v - 1] = seek(v, (left[v] ? last[map_c[left[v] - 1]] : in) + 1, to);
+    }
+    return 2 * (65536 * width) + 1;
+}
+
+/* ---- the table: for each recipe row and each place, the first to close of the listing rows from there on that hold the row ---- */
+static u16 first_from[RECIPE + 1][LISTING + 2];
+
+__attribute__((noinline)) static int table(void)
+{
+    build();
+    for (int t = n; t; t--) {
+        int e = t;
+        while (e < n && td[e] > td[t - 1])
+            e = last[e + 1];
+        last[t] = (u16)e;
+    }
+    for (int v = m; v; v--) {
+        u16 child = v < m && rd[v] > rd[v - 1] ? (u16)(v + 1) : 0, best = 0;
+        first_from[v][n + 1] = 0;
+        for (int t = n; t; t--) {
+            int holds = tl[t - 1] == rl[v - 1], at = t + 1;
+            for (u16 c = child; holds && c; c = right[c]) {
+                u16 x = at <= n ? first_from[c][at] : 0;
+                holds = x && x <= last[t];
+                at = last[x] + 1;
+            }
+            /* t closes after every row below it, and before every row behind its tree */
+            if (holds && !(best && best <= last[t])) best = (u16)t;
+            first_from[v][t] = best;
+        }
+    }
+    int at = 1;
+    for (u16 c = 1; c; c = right[c]) {
+        u16 x = at <= n ? first_from[c][at] : 0;
+        if (!x) return 0;
+        at = last[x] + 1;
+    }
+    return 1;
+}
+
+/* ---- the cases ---- */
+static int grow(u16 *depths, u32 *labels, int at, int limit, u16 depth, u32 label)
+{
+    if (at < limit) depths[at] = depth, labels[at] = label;
+    return at + 1;
+}
+
+/* A run: folders of lanes, each with cycles, each with files. The copy has a log and a sum beside each file. */
+static void run_folder(int lanes, int cycles)
+{
+    n = m = 0;
+    m = grow(rd, rl, m, RECIPE, 0, 1), n = grow(td, tl, n, LISTING, 0, 1);
+    for (int lane = 0; lane < lanes; lane++) {
+        m = grow(rd, rl, m, RECIPE, 1, 10u + lane), n = grow(td, tl, n, LISTING, 1, 10u + lane);
+        for (int cycle = 0; cycle < cycles; cycle++) {
+            m = grow(rd, rl, m, RECIPE, 2, 100u + cycle), n = grow(td, tl, n, LISTING, 2, 100u + cycle);
+            for (int extra = 0; extra < 18; extra++)
+                n = grow(td, tl, n, LISTING, 3, 1000u + extra);
+        }
+    }
+    if (m > RECIPE) m = RECIPE;
+    if (n > LISTING) n = LISTING;
+}
+
+/* The comb: one label, a chain with a leaf at each tooth, in a listing of twice as many teeth. */
+static void comb(int height)
+{
+    n = m = 0;
+    for (int i = 0; i < height - 2; i++) m = grow(rd, rl, m, RECIPE, (u16)(i / 2), 1);
+    for (int i = 0; i < 2 * height - 1; i++) n = grow(td, tl, n, LISTING, (u16)(i / 2), 1);
+}
+
+static void chance(u32 labels, int flat, int slope)
+{
+    n = LISTING, m = RECIPE;
+    for (int i = 0; i < m; i++) {
+        int most = i ? rd[i - 1] + 1 : 0;
+        rd[i] = (u16)(flat ? i > 0 : (int)next((u32)most + 1));
+        if (rd[i] > DEEPEST) rd[i] = DEEPEST;
+        rl[i] = next(labels);
+    }
+    for (int i = 0; i < n; i++) {
+        int most = i ? td[i - 1] + 1 : 0;
+        td[i] = (u16)(next(10) < (u32)slope ? most : (int)next((u32)most + 1));
+        if (td[i] > DEEPEST) td[i] = DEEPEST;
+        tl[i] = next(labels);
+    }
+}
+
+static double now(void)
+{
+    struct timespec t;
+    clock_gettime(1, &t);
+    return (double)t.seconds * 1e6 + (double)t.nanoseconds / 1e3;
+}
+
+static u64 answer, answer_c;
+static int answer_t;
+
+static void proved(void) { answer = inclusion_bench_include(td, n, tl, n, rd, m, rl, m, map, m); }
+static void in_c(void) { answer_c = same(); }
+static void by_table(void) { answer_t = table(); }
+
+static double timed(void (*call)(void), double best, int calls)
+{
+    double start = now();
+    for (int i = 0; i < calls; i++)
+        call();
+    double took = (now() - start) / calls;
+    return best < 0 || took < best ? took : best;
+}
+
+static int measure(const char *name)
+{
+    double a = -1, b = -1, c = -1;
+    for (int turn = 0; turn < TURNS; turn++)
+        a = timed(proved, a, 20), b = timed(in_c, b, 20), c = timed(by_table, c, 2);
+    if (answer != answer_c || (int)(answer & 1) != answer_t || ((answer & 1) && memcmp(map, map_c, 2u * m) != 0)) {
+        printf("%s: the answers differ: %lu %lu %d\n", name, answer, answer_c, answer_t);
+        return 1;
+    }
+    printf("%-28s %4d x %4d  %-3s %9.1f us   same algorithm %5.2f   table %6.3f\n", name, m, n, answer & 1 ? "yes" : "no", a, a / b, a / c);
+    return 0;
+}
+
+int main(void)
+{
+    int wrong = 0;
+    seed = 7;
+    printf("microseconds of the proved call, then its ratio to each peer\n");
+    run_folder(10, 20), wrong |= measure("run folder, whole");
+    run_folder(10, 20), tl[n - 20] = 5, wrong |= measure("run folder, one row lost");
+    run_folder(10, 20), m = 19, wrong |= measure("run folder, small recipe");
+    comb(26), wrong |= measure("comb, h = 26");
+    comb(63), wrong |= measure("comb, h = 63");
+    chance(1, 0, 0), wrong |= measure("one label, by chance");
+    chance(2, 0, 8), wrong |= measure("two labels, deep");
+    chance(1, 1, 8), wrong |= measure("star in a deep listing");
+    return wrong;
+}
