@@ -269,7 +269,7 @@ int main(void)
     seed = 7;
     printf("microseconds of the proved call, then its ratio to each peer\n");
     run_folder(10, 20), wrong |= measure("run folder, whole");
-    run_folder(10, 20), tl[n - 20] = 5, wrong |= measure("run folder, one row lost");
+    run_folder(10, 20), tl[n - 19] = 5, wrong |= measure("run folder, one row lost");
     run_folder(10, 20), m = 19, wrong |= measure("run folder, small recipe");
     comb(26), wrong |= measure("comb, h = 26");
     comb(63), wrong |= measure("comb, h = 63");
