@@ -4,7 +4,7 @@
 run:
 	@rt check polashvek
 	@printf 'Recipe 10(20), listing 10(30(20)): '
-	@sh tools/run-program.sh polashvek <crates/polashvek/stdin
+	@sh tools/run-program.sh target/bin/polashvek <crates/polashvek/stdin
 
 test:
 	@bash .ci/run

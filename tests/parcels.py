@@ -5,17 +5,14 @@ Usage: parcels.py        (in the repository, after `rt check parcel_cases`)
 It makes cases, has target/bin/parcel_cases run them, and compares each outcome whole: the answer and every lent slice afterwards.
 It ends with the number of cases that agree, or at the first that does not, with exit 1.
 """
-import os
-import platform
 import random
-import shutil
 import subprocess
 import sys
-from pathlib import Path
 
 RECIPE, LISTING = 0, 1
 LIMIT = {RECIPE: 256, LISTING: 4096}
 WORD = 1 << 32
+PROGRAM = ['sh', 'tools/run-program.sh', 'target/bin/parcel_cases']
 
 
 def le(value, width):
@@ -199,19 +196,10 @@ def writes(chance):
         yield writing(chance.randrange(120), n, n, chance.randrange(WORD), chance.randrange(WORD))
 
 
-def program():
-    """How a proved program is run here: by the kit's loader, under its emulator where this is no x86-64."""
-    kit = Path(os.environ.get('RATTLE_HOME') or Path(shutil.which('rt')).resolve().parent.parent)
-    tools = kit / 'on' / platform.machine() / 'toolchain'
-    emulator = tools / 'bin' / 'qemu-x86_64'
-    ahead = [str(emulator)] if emulator.exists() else []
-    return [*ahead, str(tools / 'lib' / 'ld-linux-x86-64.so.2'), '--library-path', str(tools / 'lib'), 'target/bin/parcel_cases']
-
-
 def main():
     chance = random.Random(5)
     cases = [case for make in (cuts, changes, damage, limits, writes) for case in make(chance)]
-    ran = subprocess.run(program(), input=b''.join(case.header() for case in cases), stdout=subprocess.PIPE, check=True).stdout
+    ran = subprocess.run(PROGRAM, input=b''.join(case.header() for case in cases), stdout=subprocess.PIPE, check=True).stdout
     at = 0
     for number, case in enumerate(cases):
         expected = case.expected()

@@ -1,4 +1,4 @@
--- What the contracts of `matching` cite. The first three files are parts of document 01, the others say what the code does.
+-- What the contracts of `matching` cite. The first six files speak document 01's words, the others say what the code does on its way.
 pub mod Answer
 pub mod Corner
 pub mod EarliestClose
