@@ -1,5 +1,7 @@
 # make run: the main job on document 01's example.  make test: the gate.  make bench: speed beside plain programs.
-.PHONY: run test bench
+# make install PREFIX=/usr/local: the library for C, its header and pkg-config file, and the program.
+.PHONY: run test bench install
+PREFIX ?= /usr/local
 
 run:
 	@rt check polashvek
@@ -12,3 +14,11 @@ test:
 bench:
 	@sh tools/run-c.sh bench/inclusion.c inclusion_bench
 	@sh tools/run-c.sh bench/parcels.c parcel_bench
+
+install: target/staticlib/libhost.a
+	@rt check polashvek
+	@DESTDIR='$(DESTDIR)' sh tools/install.sh '$(PREFIX)'
+
+# A crate's library for C, proved and written again only where a file of a crate is newer.
+target/staticlib/lib%.a: crates.txt $(shell find crates -type f)
+	@rt staticlib $*
