@@ -1,4 +1,4 @@
-# make run: the main job on document 01's example.  make test: the gate.  make bench: speed beside plain programs.
+# make run: the main job on document 01's example.  make test: the gate.  make bench: speed beside other programs.
 # make install PREFIX=/usr/local: the library for C, its header and pkg-config file, and the program.
 .PHONY: run test bench install
 PREFIX ?= /usr/local
@@ -14,6 +14,7 @@ test:
 bench:
 	@sh tools/run-c.sh bench/inclusion.c inclusion_bench
 	@sh tools/run-c.sh bench/parcels.c parcel_bench
+	@sh bench/answer.sh
 
 install: target/staticlib/libhost.a
 	@rt check polashvek
