@@ -25,7 +25,7 @@ static u32 next(u32 below)
     return (seed >> 8) % below;
 }
 
-/* ---- the same algorithm: corners of the chains asked, then the map by going down ---- */
+/* ---- the same algorithm: corners of the chains asked, then an image for each row by a pass that stops there ---- */
 static u16 parent[RECIPE + 1], right[RECIPE + 1], left[RECIPE + 1], leaf[RECIPE + 1], deep[RECIPE + 1];
 static u16 asked[RECIPE], place[RECIPE + 1], room[ROOM];
 static u16 last[LISTING + 1];
@@ -60,12 +60,16 @@ static u16 join_row(u16 a, u16 b, u16 w)
     return w && deep[w] == deep[a] ? w : a;
 }
 
-static int forest_corners(int base, int q, int first);
+/* A pass ends behind its rows, or at the first row to close that holds the row sought: that is the row's number, negative. */
+static int forest_corners(int base, int q, u16 goal, int first);
 
-static int tree_corners(int base, int q, int first)
+static int is_found(u16 goal, u16 w) { return goal && w && deep[w] == deep[goal]; }
+
+static int tree_corners(int base, int q, u16 goal, int first)
 {
     u32 name = tl[first];
     if (first + 1 >= n || td[first + 1] <= td[first]) {
+        if (goal && is_found(goal, close_row(name, goal, 0))) return -(first + 1);
         for (int i = 0; i < q; i++) {
             u16 a = room[base + i], y = right[a];
             room[base + i] = join_row(a, close_row(name, asked[i], 0), y ? close_row(name, y, 0) : 0);
@@ -77,9 +81,11 @@ static int tree_corners(int base, int q, int first)
         u16 y = right[room[base + i]];
         if (y && !(place[y] < z && asked[place[y]] == y)) asked[z] = y, place[y] = (u16)z++;
     }
-    int end = forest_corners(base + q, z, first + 1);
+    int end = forest_corners(base + q, z, goal, first + 1);
+    if (end < 0) return end;
     for (int i = 0; i < z; i++)
         room[base + q + i] = close_row(name, asked[i], room[base + q + i]);
+    if (is_found(goal, room[base + q])) return -(first + 1);
     for (int i = 0; i < q; i++) {
         u16 a = room[base + i], y = right[a];
         room[base + i] = join_row(a, room[base + q + i], y ? room[base + q + place[y]] : 0);
@@ -87,57 +93,47 @@ static int tree_corners(int base, int q, int first)
     return end;
 }
 
-static int forest_corners(int base, int q, int first)
+static int forest_corners(int base, int q, u16 goal, int first)
 {
     for (int i = 0; i < q; i++)
         room[base + i] = 0;
     int at = first;
-    while (at < n && td[at] >= td[first])
-        at = tree_corners(base, q, at);
+    while (at >= 0 && at < n && td[at] >= td[first])
+        at = tree_corners(base, q, goal, at);
     return at;
 }
 
-static u16 seek(u16 v, int lo, int hi)
+static u16 seek(u16 v, int at)
 {
-    while (lo <= hi) {
-        u16 below = 0;
-        int end = lo;
-        if (lo < n && td[lo] > td[lo - 1]) {
-            asked[0] = v, place[v] = 0;
-            end = forest_corners(0, 1, lo);
-            below = room[0];
-        }
-        if (below && deep[below] == deep[v]) {
-            hi = end, lo++;
-            continue;
-        }
-        u16 tree = close_row(tl[lo - 1], v, below);
-        if (tree && deep[tree] == deep[v]) return (u16)lo;
-        lo = end + 1;
-    }
-    return 0;
+    asked[0] = v, place[v] = 0;
+    while (at >= 0 && at < n)
+        at = forest_corners(0, 1, v, at);
+    return (u16)-at;
+}
+
+static int last_row(int t)
+{
+    int e = t;
+    while (e < n && td[e] > td[t - 1])
+        e++;
+    return e;
 }
 
 __attribute__((noinline)) static u64 same(void)
 {
     build();
+    int pass = 0;
     room[0] = 0;
-    if (n) asked[0] = 1, place[1] = 0, forest_corners(0, 1, 0);
-    u16 w = room[0];
+    if (n) asked[0] = 1, place[1] = 0, pass = forest_corners(0, 1, !right[1], 0);
+    u16 w = pass < 0 ? 1 : room[0];
     if (w == 0) return 2 * (u64)leaf[1];
     u64 width = 0;
     for (u16 u = w; u; u = left[u])
         width++;
     if (deep[w] || right[w]) return 2 * (65536 * width + parent[w]);
-    for (int t = n; t; t--) {
-        int e = t;
-        while (e < n && td[e] > td[t - 1])
-            e = last[e + 1];
-        last[t] = (u16)e;
-    }
     for (u16 v = 1; v <= m; v++) {
-        int in = parent[v] ? map_c[parent[v] - 1] : 0, to = in ? last[in] : n;
-        map_c[v - 1] = seek(v, (left[v] ? last[map_c[left[v] - 1]] : in) + 1, to);
+        int from = left[v] ? last_row(map_c[left[v] - 1]) : parent[v] ? map_c[parent[v] - 1] : 0;
+        map_c[v - 1] = v == 1 && pass < 0 ? (u16)-pass : seek(v, from);
     }
     return 2 * (65536 * width) + 1;
 }

@@ -1,28 +1,19 @@
 -- How large the numbers of a corner are: its width and its row count rows of the recipe. Assumes nothing.
 use mathlib.Core.Path.{_≡_, refl}
-use mathlib.Core.Bool.{Bool, true, false}
-use mathlib.Core.List.{List, [], _∷_}
+use mathlib.Core.List.{List}
 use Prim.Native.Nat.{ℕ, zero, suc, _+_, _-_, _≤_}
 use native.Mathlib.Omega.{arith}
-use lib.Dec.{eqb}
 use lib.ListN.{length, drop, length-drop}
 use Rattle.rows.specs.Rows.{depth}
 use Rattle.rows.proofs.DescendantLaws.{descendants-within}
-use Rattle.matching.specs.Family.{descent, leftLeaf}
+use Rattle.matching.specs.Family.{leftLeaf}
+use Rattle.matching.proofs.LeftLeaf.{descent-fits}
 use Rattle.matching.specs.Corner.{cornerEnd, CornerIs, WholeCorner}
 
 -- each subtree has a row at least
 end-low : (ds : List ℕ) (v i : ℕ) → v + i ≤ cornerEnd ds v i
 end-low ds v zero = omega arith
 end-low ds v (suc i) = omega (arith, end-low ds v i)
-
-descent-fits : (d : ℕ) (ds : List ℕ) → descent d ds ≤ length ds
-descent-fits d [] = omega arith
-descent-fits d (e ∷ es) = go (eqb e d) (descent-fits (suc d) es)
-  where
-    go : (b : Bool) → descent (suc d) es ≤ length es → elim b [ true ↦ suc (descent (suc d) es) | false ↦ 0 ] ≤ suc (length es)
-    go true h = omega arith
-    go false h = omega arith
 
 leaf-fits : (ds : List ℕ) → leftLeaf ds 1 ≤ suc (length ds)
 leaf-fits ds = omega (arith, descent-fits (suc (depth ds 1)) (drop 1 ds), length-drop 1 ds)

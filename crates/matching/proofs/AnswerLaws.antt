@@ -32,7 +32,7 @@ use Rattle.matching.proofs.Refusals.{tables-fine}
 use Rattle.matching.proofs.CornerLaws.{corner-one, corner-is, corner-none, included-row, whole-iff}
 use Rattle.matching.proofs.CornerRow.{corner-fits}
 use Rattle.matching.proofs.EarliestClose.{earliest-one}
-use Rattle.matching.proofs.SeekSteps.{same-right}
+use Rattle.matching.proofs.Passes.{same-right}
 use Rattle.matching.proofs.Width.{recipe-of, width-none, width-some}
 
 -- refused for the tables, or for the map, or not at all

@@ -11,7 +11,10 @@ use Rattle.rows.specs.Rows.{at, depth}
 use Rattle.matching.specs.Family.{parent, rightSibling, leftLeaf}
 use Rattle.matching.specs.CornerRow.{closeRow, joinRow}
 use Rattle.matching.specs.Shape.{word, Shape}
-use Rattle.matching.specs.Room.{named}
+use Rattle.matching.specs.Room.{recipeOf, named}
+use Rattle.matching.proofs.LeftLeaf.{leaf-within}
+use Rattle.matching.proofs.Siblings.{parent-within}
+use Rattle.matching.proofs.Width.{length-words}
 use Rattle.matching.proofs.CornerRow.{close-new, close-empty, close-top, close-wide, close-raise, close-other, join-empty, join-higher, join-wider, join-kept}
 
 -- a test of the row v, which has the label l
@@ -93,3 +96,11 @@ module _ (rd ws : List ℕ) (k : Shape rd ws) (a b w : ℕ) (ha : a ≤ length r
 
       pub words-kept : ((1 ≤ w) × (word 3 ws w ≡ d) → ⊥) → a ≡ joinRow rd a b w
       words-kept h = sym (join-kept rd a b w (omega arith) under (λ o q. h (o, k .depths w hw ∙ q ∙ sym here)))
+
+-- the rows whose labels are read, a left-most leaf and a parent, have labels
+module _ (ws rl : List ℕ) (k : Shape (recipeOf ws rl) ws) (x : ℕ) (h : x ≤ length (recipeOf ws rl)) where
+  pub leaf-labelled : word 2 ws x ≤ length rl
+  leaf-labelled = omega (arith, k .leaves x h, leaf-within (recipeOf ws rl) x h, length-words ws 1 (length rl))
+
+  pub parent-labelled : word 0 ws x ≤ length rl
+  parent-labelled = omega (arith, k .parents x h, parent-within (recipeOf ws rl) x, length-words ws 1 (length rl))

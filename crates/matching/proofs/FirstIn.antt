@@ -57,6 +57,33 @@ module _ (ds : List ℕ) (k : Outline ds) (P : ℕ → Type 0) where
         go y a b p (yes i) = absurd (none y a i p)
         go y a b p (no i) = f .first y (omega arith) b p
 
+  -- no row before the rows lo to mid obeys, and the first to close of these has its tree among them: it is the first of the window
+  pub widen : (a lo mid hi t : ℕ) → 1 ≤ a → a ≤ lo → mid ≤ hi → hi ≤ length ds → lastRow ds t ≤ mid → ((y : ℕ) → a ≤ y → y < lo → P y → ⊥)
+      → FirstIn ds P lo mid t → FirstIn ds P a hi t
+  widen a lo mid hi t one low o end whole none f =
+      record {
+        low = omega (arith, f .low);
+        high = omega (arith, f .high);
+        holds = f .holds;
+        first = λ y i j p. go y i j p (decLe lo y) (decLe y mid);
+      }
+    where
+      go : (y : ℕ) → a ≤ y → y ≤ hi → P y → Dec (lo ≤ y) → Dec (y ≤ mid) → closing ds t ≤ closing ds y
+      go y i j p (no k) d = absurd (none y i (omega arith) p)
+      go y i j p (yes k) (yes l) = f .first y k l p
+      go y i j p (yes k) (no l) = omega (arith, behind t hi (omega (arith, f .low)) (omega arith) end y (omega arith) j)
+
+  -- a row of a narrower window obeys, whose trees end in it: the first of the wider one is the first of that
+  pub narrow : (lo hi end t : ℕ) → 1 ≤ lo → hi ≤ end → end ≤ length ds → Closed ds lo hi → (y : ℕ) → lo ≤ y → y ≤ hi → P y → FirstIn ds P lo end t → FirstIn ds P lo hi t
+  narrow lo hi end t one o fits c y a b p f =
+      record { low = f .low; high = inside (decLe t hi); holds = f .holds; first = λ z i j q. f .first z i (omega arith) q }
+    where
+      inside : Dec (t ≤ hi) → t ≤ hi
+      inside (yes i) = i
+      inside (no i) =
+          let e = c y a b in
+          absurd (omega (arith, f .first y a (omega arith) p, behind y end (omega arith) (omega arith) fits t (omega arith) (f .high)))
+
   -- so where it can be decided whether a row obeys, the search comes to an answer
   module _ (dec : (t : ℕ) → Row ds t → Dec (P t)) where
     seek : (n lo hi : ℕ) → hi < lo + n → 1 ≤ lo → hi ≤ length ds → Closed ds lo hi → Sought ds P lo hi

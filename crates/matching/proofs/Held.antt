@@ -22,7 +22,7 @@ use Rattle.matching.proofs.Holds.{rest-below}
 stands-tree : (ds : List ℕ) → Outline ds → (i : ℕ) → i < length ds → Stands ds i (cons (suc i) (below ds (suc i)) nil)
 stands-tree ds k i h = (refl, h, sym (size-below ds k (suc i) (omega arith)), window-below ds k (suc i) (omega arith) .stands, tt)
 
-stands-ends : (ds : List ℕ) (z : ℕ) (f : Forest ℕ) → Stands ds z f → (y : ℕ) → Among z (size f) y → lastRow ds y ≤ z + size f
+pub stands-ends : (ds : List ℕ) (z : ℕ) (f : Forest ℕ) → Stands ds z f → (y : ℕ) → Among z (size f) y → lastRow ds y ≤ z + size f
 stands-ends ds z nil s y a = absurd (omega arith)
 stands-ends ds z (cons b f g) s y a =
     go (decLe y (suc z)) (decLe y (suc z + size f)) (stands-ends ds (suc z) f (s .3) y) (stands-ends ds (suc (z + size f)) g (s .4) y)

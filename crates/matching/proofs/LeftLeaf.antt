@@ -1,11 +1,13 @@
 -- The left-most leaf of a row: that of the next row if it is deeper, else the row itself. Assumes nothing.
 use mathlib.Core.Path.{_≡_}
-use mathlib.Core.List.{List}
+use mathlib.Core.Bool.{Bool, true, false}
+use mathlib.Core.List.{List, [], _∷_}
 use Prim.Native.Nat.{ℕ, zero, suc, _+_, _≤_, _<_}
 use native.Mathlib.Numerals.{add-one}
 use native.Mathlib.Omega.{arith}
 use native.Mathlib.Decide.{decLt}
-use lib.ListN.{length, getD, drop, drop-of-length-le}
+use lib.Dec.{eqb}
+use lib.ListN.{length, getD, drop, length-drop, drop-of-length-le}
 use lib.Seq.{drop-cons}
 use borrow.Author.Tests.{eq-eqb, ne-eqb}
 use Rattle.rows.specs.Rows.{depth, Outline}
@@ -50,3 +52,16 @@ module _ (ds : List ℕ) where
       go : (v : ℕ) → depth ds (suc v) ≤ depth ds v → leftLeaf ds v ≡ v
       go zero l = omega arith
       go (suc i) l = omega (arith, descent-off ds (suc (depth ds (suc i))) (suc i) (λ e. omega arith))
+
+-- the left-most leaf is a row
+pub descent-fits : (d : ℕ) (es : List ℕ) → descent d es ≤ length es
+descent-fits d [] = omega arith
+descent-fits d (e ∷ es) = go (eqb e d) (descent-fits (suc d) es)
+  where
+    go : (b : Bool) → descent (suc d) es ≤ length es → elim b [ true ↦ suc (descent (suc d) es) | false ↦ 0 ] ≤ suc (length es)
+    go true h = omega arith
+    go false h = omega arith
+
+pub leaf-within : (ds : List ℕ) (v : ℕ) → v ≤ length ds → leftLeaf ds v ≤ length ds
+leaf-within ds zero h = omega arith
+leaf-within ds (suc i) h = omega (arith, descent-fits (suc (depth ds (suc i))) (drop (suc i) ds), length-drop (suc i) ds)

@@ -77,6 +77,11 @@ module _ (ds : List ℕ) where
   shallower-parent e zero h = refl
   shallower-parent e (suc j) h = shallower-past ds e j h ∙ shallower-skip e (depth ds (suc j)) h j
 
+  -- the parent of a row is none after it
+  pub parent-within : (v : ℕ) → parent ds v ≤ v
+  parent-within zero = omega arith
+  parent-within (suc i) = omega (arith, shallower-within ds (depth ds (suc i)) i)
+
   -- a row below depth 0 is no row 0
   pub deep-row : (d u : ℕ) → d < depth ds u → 1 ≤ u
   deep-row d zero h = absurd (omega arith)

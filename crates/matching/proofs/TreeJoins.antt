@@ -123,7 +123,7 @@ module _ (ws rl td tl : List ℕ) (k : Ready ws rl td tl) where
       tree-alone : treeAt td first ≡ cons (suc first) nil nil
       tree-alone = ap (λ (f : Forest ℕ). cons (suc first) f nil) (below-none td first h leaf)
 
-      alone-tree : (x : ℕ) → x ≤ length rd → alone ws rl name x ≡ cornerOf ws rl tl (treeAt td first) x
+      pub alone-tree : (x : ℕ) → x ≤ length rd → alone ws rl name x ≡ cornerOf ws rl tl (treeAt td first) x
       alone-tree x l = alone-of (suc first) x l ∙ ap (λ (f : Forest ℕ). cornerOf ws rl tl f x) (sym tree-alone)
 
       right-low : (i : ℕ) → i < q → word 1 ws (getD rs (base + i) 0) ≤ length rd
@@ -213,7 +213,7 @@ module _ (ws rl td tl : List ℕ) (k : Ready ws rl td tl) where
           )
 
           module _ (rs₂ : List ℕ) (w : Written rs₁ (base + q) z (closed ws rl name vs rs₁ (base + q)) rs₂) where
-            tree-corner : (i : ℕ) → i < z → getD rs₂ (base + q + i) 0 ≡ cornerOf ws rl tl (treeAt td first) (chain vs i)
+            pub tree-corner : (i : ℕ) → i < z → getD rs₂ (base + q + i) 0 ≡ cornerOf ws rl tl (treeAt td first) (chain vs i)
             tree-corner i l =
                 w .new i l
                 ∙ ap (closeRow (named rl) rd (chain vs i) name)

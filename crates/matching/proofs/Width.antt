@@ -47,7 +47,7 @@ width-some ds zero n = absurd (n refl)
 width-some ds (suc z) n = (refl, refl)
 
 -- the depth words of a shape are its recipe
-length-words : (ws : List ℕ) (v n : ℕ) → length (depthWords ws v n) ≡ n
+pub length-words : (ws : List ℕ) (v n : ℕ) → length (depthWords ws v n) ≡ n
 length-words ws v zero = refl
 length-words ws v (suc n) = ap suc (length-words ws (suc v) n)
 

@@ -37,11 +37,3 @@ pub record FirstIn (td : List ℕ) (P : ℕ → Type 0) (lo hi t : ℕ) : Type 0
   pub high : t ≤ hi
   pub holds : P t
   pub first : (y : ℕ) → lo ≤ y → y ≤ hi → P y → closing td t ≤ closing td y
-
--- the search in the window from..to has come to the rows lo to hi: one of them holds v, and the first of these to close is the answer
-pub record Seeking (Fit : ℕ → ℕ → Type 0) (rd td : List ℕ) (v from to lo hi : ℕ) : Type 0 where
-  pub begins : 1 ≤ lo
-  pub ends : hi ≤ length td
-  pub closed : Closed td lo hi
-  pub held : HeldIn Fit rd td v lo hi
-  pub answers : (t : ℕ) → FirstIn td (Holds Fit rd td v) lo hi t → FirstIn td (Holds Fit rd td v) from to t

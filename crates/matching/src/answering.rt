@@ -12,10 +12,11 @@ ghost use Rattle.matching.specs.CornerRow.{place, widthAt, rowAt};
 ghost use Rattle.matching.specs.Refusals.{GoodTables};
 ghost use Rattle.matching.specs.Shape.{Shape, word};
 ghost use Rattle.matching.specs.Room.{recipeOf, roomWords};
-ghost use Rattle.matching.specs.Engine.{Ready, cornerOf};
+ghost use Rattle.matching.specs.Engine.{Ready, Known, cornerOf};
 use crate::Answer;
 use crate::Corner;
 use crate::Refusal;
+use crate::corners::Pass;
 use crate::corners::forest_corners;
 use crate::corners::is_level;
 use crate::images::place_rows;
@@ -26,7 +27,24 @@ use crate::shape::right_of;
 use crate::tables::Tables;
 use crate::tables::check_tables;
 
-// The corner of the whole listing, as one row of the recipe; 0 where nothing is found.
+// Row 1 where it is the only root, else 0.
+fn only_root(shape: &[u16; 1028]) -> u16
+    ensures { λ r. ⌜ r ≡ counted (eqb (word 1 (now (shape .entry)) 1) 0) 0 ⌝ }
+{
+    if right_of(shape, 1) == 0 {
+        return 1;
+    }
+    0
+}
+
+// The corner of the whole listing as one row of the recipe, 0 where nothing is found; and the image of row 1, 0 where the search
+// did not come upon it.
+struct Top {
+    corner: u16,
+    image: usize,
+}
+
+// One pass over the listing. A recipe with one root is found when that root is.
 fn top_corner(
     depths: &[u16],
     names: &[u32],
@@ -34,19 +52,32 @@ fn top_corner(
     labels: &[u32],
     asked: &mut [u16; 513],
     room: &mut [u16; 14592],
-) -> u16
+) -> Top
     requires { ⌜ Ready (now shape) (now labels) (now depths) (now names) × (1 ≤ length (recipeOf (now shape) (now labels))) ⌝ }
     requires { ⌜ (length (now asked) ≡ 513) × (length (now room) ≡ roomWords) ⌝ }
-    ensures { λ r. ⌜ r ≡ cornerOf (now (shape .entry)) (now (labels .entry)) (now (names .entry)) (forest (now (depths .entry))) 1 ⌝ }
+    ensures { λ r. ⌜ (r .corner ≡ cornerOf (now (shape .entry)) (now (labels .entry)) (now (names .entry)) (forest (now (depths .entry))) 1) × Known (now (shape .entry)) (now (labels .entry)) (now (depths .entry)) (now (names .entry)) (r .image) ⌝ }
     ensures { λ r. ⌜ (length (now (asked .exit)) ≡ 513) × (length (now (room .exit)) ≡ roomWords) ⌝ }
 {
     if depths.len() == 0 {
-        return 0;
+        return Top {
+            corner: 0,
+            image: 0,
+        };
     }
     asked[0] = 1;
     asked[257] = 0;
-    forest_corners(depths, names, shape, labels, asked, room, 0, 1, 0);
-    room[0]
+    let goal = only_root(shape);
+    let pass = forest_corners(depths, names, shape, labels, asked, room, 0, 1, goal, 0);
+    match pass {
+        Pass::Found(row) => Top {
+            corner: 1,
+            image: row,
+        },
+        Pass::Through(_) => Top {
+            corner: room[0],
+            image: 0,
+        },
+    }
 }
 
 // One more where the two depths are equal.
@@ -122,9 +153,9 @@ fn answer_good(
     build(recipe, &mut shape);
     let mut asked = [0u16; 513];
     let mut room = [0u16; 14592];
-    let w = top_corner(depths, names, &shape, labels, &mut asked, &mut room);
-    let corner = corner_of(recipe, &shape, w);
-    if !is_whole(&shape, w) {
+    let top = top_corner(depths, names, &shape, labels, &mut asked, &mut room);
+    let corner = corner_of(recipe, &shape, top.corner);
+    if !is_whole(&shape, top.corner) {
         return Answer::Absent(corner);
     }
     place_rows(
@@ -135,6 +166,7 @@ fn answer_good(
         labels,
         &mut asked,
         &mut room,
+        top.image,
         map,
     );
     Answer::Included(corner)

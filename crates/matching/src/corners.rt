@@ -9,7 +9,7 @@ ghost use Rattle.rows.specs.Forest.{size, forestAt};
 ghost use Rattle.matching.specs.CornerRow.{closeRow, joinRow};
 ghost use Rattle.matching.specs.Shape.{Shape, word};
 ghost use Rattle.matching.specs.Asked.{chain, noted};
-ghost use Rattle.matching.specs.Engine.{Ready, Begins, Ends, cornerOf, withTree};
+ghost use Rattle.matching.specs.Engine.{Ready, Begins, Sought, Passed, cornerOf, withTree};
 ghost use Rattle.matching.specs.Room.{roomWords, recipeOf, named, following, Written, closed, joined, joinedAlone, Joins, JoinsAlone};
 use crate::asked::extend;
 use crate::asked::wide;
@@ -18,18 +18,15 @@ use crate::shape::leaf_of;
 use crate::shape::parent_of;
 use crate::shape::right_of;
 
-// The label of recipe row v; 0 where there is no such row.
+// The label of recipe row v; that of row 0 is 0.
 fn label_of(labels: &[u32], v: u16) -> u32
+    requires { ⌜ v ≤ length (now labels) ⌝ }
     ensures { λ r. ⌜ r ≡ at (now (labels .entry)) v ⌝ }
 {
-    let i = v as usize;
-    if i == 0 {
+    if v == 0 {
         return 0;
     }
-    if labels.len() < i {
-        return 0;
-    }
-    labels[i - 1]
+    labels[(v as usize) - 1]
 }
 
 // Close a row with the label name over the rows below it, whose corner on chain x is w: the corner on chain x then.
@@ -212,9 +209,27 @@ pub(crate) fn has_rows(depths: &[u16], first: usize) -> bool
     depths[first] < depths[first + 1]
 }
 
-// Tree against forest: the tree whose first row stands behind `first` rows of the listing joins the q corners from base on.
-// Answers how many rows stand before the end of the tree.
-pub(crate) fn tree_corners(
+// How a pass over listing rows ends: at the first row to close that holds the row sought, or through all rows, with how many
+// stand before their end.
+pub(crate) enum Pass {
+    Found(usize),
+    Through(usize),
+}
+
+// Whether the corner w stands on the level of the row sought; never where no row is sought.
+fn is_found(shape: &[u16; 1028], goal: u16, w: u16) -> bool
+    requires { ⌜ (goal ≤ 256) × (w ≤ 256) ⌝ }
+    ensures { λ r. ⌜ (r ≡ true) ↔ ((1 ≤ goal) × (1 ≤ w) × (word 3 (now (shape .entry)) w ≡ word 3 (now (shape .entry)) goal)) ⌝ }
+{
+    if goal == 0 {
+        return false;
+    }
+    is_level(shape, w, depth_of(shape, goal))
+}
+
+// Tree against forest: the tree whose first row stands behind `first` rows of the listing joins the q corners from base on, unless
+// one of its rows holds the row sought.
+fn tree_corners(
     depths: &[u16],
     names: &[u32],
     shape: &[u16; 1028],
@@ -223,23 +238,26 @@ pub(crate) fn tree_corners(
     room: &mut [u16; 14592],
     base: usize,
     q: usize,
+    goal: u16,
     first: usize,
-) -> usize
-    requires { ⌜ Ready (now shape) (now labels) (now depths) (now names) × (first < length (now depths)) ⌝ }
+) -> Pass
+    requires { ⌜ Ready (now shape) (now labels) (now depths) (now names) × (first < length (now depths)) × Sought (now asked) q goal ⌝ }
     requires { ⌜ Begins (now shape) (now labels) (now asked) (now room) base q (depth (now depths) (suc first)) ⌝ }
     requires { ⌜ ((i : ℕ) → i < q → getD (now room) (base + i) 0 ≤ length (recipeOf (now shape) (now labels))) ⌝ }
-    ensures { λ r. ⌜ r ≡ lastRow (now (depths .entry)) (suc first) ⌝ }
-    ensures { λ r. ⌜ Ends (now (shape .entry)) (now (labels .entry)) (now (asked .entry)) (now (room .entry)) base q
+    ensures { λ r. ⌜ Passed (now (shape .entry)) (now (labels .entry)) (now (depths .entry)) (now (names .entry)) (now (asked .entry)) (now (room .entry)) base q
         (λ i. withTree (now (shape .entry)) (now (labels .entry)) (now (depths .entry)) (now (names .entry)) first (chain (now (asked .entry)) i) (getD (now (room .entry)) (base + i) 0))
-        (now (asked .exit)) (now (room .exit)) ⌝ }
+        goal first (lastRow (now (depths .entry)) (suc first)) r (now (asked .exit)) (now (room .exit)) ⌝ }
 {
     let name = names[first];
     if !has_rows(depths, first) {
+        if is_found(shape, goal, close_row(shape, labels, name, goal, 0)) {
+            return Pass::Found(first + 1);
+        }
         join_leaf(shape, labels, name, asked, room, base, q);
-        return first + 1;
+        return Pass::Through(first + 1);
     }
     let z = extend(shape, asked, room, base, q);
-    let end = forest_corners(
+    let below = forest_corners(
         depths,
         names,
         shape,
@@ -248,15 +266,24 @@ pub(crate) fn tree_corners(
         room,
         base + q,
         z,
+        goal,
         first + 1,
     );
-    close_asked(shape, labels, name, asked, room, base + q, z);
-    join_asked(shape, labels, asked, room, base, q, z);
-    end
+    match below {
+        Pass::Found(row) => Pass::Found(row),
+        Pass::Through(end) => {
+            close_asked(shape, labels, name, asked, room, base + q, z);
+            if is_found(shape, goal, room[base + q]) {
+                return Pass::Found(first + 1);
+            }
+            join_asked(shape, labels, asked, room, base, q, z);
+            Pass::Through(end)
+        }
+    }
 }
 
 // Forest against forest: the corners from base on of the trees that stand side by side behind `first` rows of the listing, on
-// the q chains asked. Answers how many rows stand before their end.
+// the q chains asked, unless one of their rows holds the row sought.
 pub(crate) fn forest_corners(
     depths: &[u16],
     names: &[u32],
@@ -266,23 +293,31 @@ pub(crate) fn forest_corners(
     room: &mut [u16; 14592],
     base: usize,
     q: usize,
+    goal: u16,
     first: usize,
-) -> usize
-    requires { ⌜ Ready (now shape) (now labels) (now depths) (now names) × (first < length (now depths)) ⌝ }
+) -> Pass
+    requires { ⌜ Ready (now shape) (now labels) (now depths) (now names) × (first < length (now depths)) × Sought (now asked) q goal ⌝ }
     requires { ⌜ Begins (now shape) (now labels) (now asked) (now room) base q (depth (now depths) (suc first)) ⌝ }
-    ensures { λ r. ⌜ r ≡ first + size (forestAt (now (depths .entry)) first (depth (now (depths .entry)) (suc first))) ⌝ }
-    ensures { λ r. ⌜ Ends (now (shape .entry)) (now (labels .entry)) (now (asked .entry)) (now (room .entry)) base q
+    ensures { λ r. ⌜ Passed (now (shape .entry)) (now (labels .entry)) (now (depths .entry)) (now (names .entry)) (now (asked .entry)) (now (room .entry)) base q
         (λ i. cornerOf (now (shape .entry)) (now (labels .entry)) (now (names .entry)) (forestAt (now (depths .entry)) first (depth (now (depths .entry)) (suc first))) (chain (now (asked .entry)) i))
-        (now (asked .exit)) (now (room .exit)) ⌝ }
+        goal first (first + size (forestAt (now (depths .entry)) first (depth (now (depths .entry)) (suc first)))) r (now (asked .exit)) (now (room .exit)) ⌝ }
 {
     clear(room, base, q);
     let top = depths[first];
     let mut at = first;
     while at < depths.len() {
         if depths[at] < top {
-            return at;
+            return Pass::Through(at);
         }
-        at = tree_corners(depths, names, shape, labels, asked, room, base, q, at);
+        let tree = tree_corners(depths, names, shape, labels, asked, room, base, q, goal, at);
+        match tree {
+            Pass::Found(row) => {
+                return Pass::Found(row);
+            }
+            Pass::Through(end) => {
+                at = end;
+            }
+        }
     }
-    at
+    Pass::Through(at)
 }

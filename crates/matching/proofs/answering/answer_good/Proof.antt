@@ -26,7 +26,7 @@ corner-of-requires c κs =
     let start = c .before .before .before .before .before .before .before .before .before .before .before .before in
     let a = start .args in
     let w = c .before .top-corner in
-    (b .ensures, start .pre .0 .recipe-some, corner-low (a .recipe .now) (a .labels .now) (a .depths .now) (a .names .now) (a .map .now) (start .pre .0) (start .pre .1) (b .last .1 .0) (b .ensures) (w .result) (w .ensures .0))
+    (b .ensures, start .pre .0 .recipe-some, corner-low (a .recipe .now) (a .labels .now) (a .depths .now) (a .names .now) (a .map .now) (start .pre .0) (start .pre .1) (b .last .1 .0) (b .ensures) (w .result .corner) (w .ensures .0 .0))
 
 is-whole-requires : tie.Need-is-whole-requires
 is-whole-requires c κs =
@@ -34,7 +34,7 @@ is-whole-requires c κs =
     let start = c .before .before .before .before .before .before .before .before .before .before .before .before .before .before in
     let a = start .args in
     let w = c .before .before .before .top-corner in
-    omega (arith, corner-low (a .recipe .now) (a .labels .now) (a .depths .now) (a .names .now) (a .map .now) (start .pre .0) (start .pre .1) (b .last .1 .0) (b .ensures) (w .result) (w .ensures .0), start .pre .0 .recipe-few)
+    omega (arith, corner-low (a .recipe .now) (a .labels .now) (a .depths .now) (a .names .now) (a .map .now) (start .pre .0) (start .pre .1) (b .last .1 .0) (b .ensures) (w .result .corner) (w .ensures .0 .0), start .pre .0 .recipe-few)
 
 returns : tie.Need-returns
 returns c =
@@ -43,7 +43,7 @@ returns c =
     let a = start .args in
     let w = c .before .before .before .before .before .top-corner in
     let k = c .before .before .before .corner-of in
-    answers-absent (a .recipe .now) (a .labels .now) (a .depths .now) (a .names .now) (a .map .now) (start .pre .0) (start .pre .1) (b .last .1 .0) (b .ensures) (w .result) (w .ensures .0) (k .result) (k .ensures) (λ h. true≢false (sym (c .before .is-whole .ensures .1 h) ∙ not-true _ (c .if1 .taken)))
+    answers-absent (a .recipe .now) (a .labels .now) (a .depths .now) (a .names .now) (a .map .now) (start .pre .0) (start .pre .1) (b .last .1 .0) (b .ensures) (w .result .corner) (w .ensures .0 .0) (k .result) (k .ensures) (λ h. true≢false (sym (c .before .is-whole .ensures .1 h) ∙ not-true _ (c .if1 .taken)))
 
 place-rows-requires : tie.Need-place-rows-requires
 place-rows-requires c κs =
@@ -52,7 +52,7 @@ place-rows-requires c κs =
     let a = start .args in
     let w = c .before .before .before .before .before .before .before .before .before .top-corner in
     let y = c .before .before .before .before .before .is-whole .ensures .0 (not-false _ (c .before .before .before .before .if1 .left)) in
-    ((ready (a .recipe .now) (a .labels .now) (a .depths .now) (a .names .now) (a .map .now) (start .pre .0) (start .pre .1) (b .last .1 .0) (b .ensures), recipe-is (a .recipe .now) (a .labels .now) (a .depths .now) (a .names .now) (a .map .now) (start .pre .0) (start .pre .1) (b .last .1 .0) (b .ensures)), ((start .pre .0 .listing-few, start .pre .1), (whole-included (a .recipe .now) (a .labels .now) (a .depths .now) (a .names .now) (a .map .now) (start .pre .0) (start .pre .1) (b .last .1 .0) (b .ensures) (w .result) (w .ensures .0) .0 y, (w .ensures .1 .0, w .ensures .1 .1))))
+    ((ready (a .recipe .now) (a .labels .now) (a .depths .now) (a .names .now) (a .map .now) (start .pre .0) (start .pre .1) (b .last .1 .0) (b .ensures), recipe-is (a .recipe .now) (a .labels .now) (a .depths .now) (a .names .now) (a .map .now) (start .pre .0) (start .pre .1) (b .last .1 .0) (b .ensures)), ((start .pre .0 .listing-few, start .pre .1), (whole-included (a .recipe .now) (a .labels .now) (a .depths .now) (a .names .now) (a .map .now) (start .pre .0) (start .pre .1) (b .last .1 .0) (b .ensures) (w .result .corner) (w .ensures .0 .0) .0 y, (w .ensures .1 .0, w .ensures .1 .1, w .ensures .0 .1))))
 
 same-length : tie.Need-same-length
 same-length c = search needs
@@ -66,7 +66,7 @@ returns-2 c =
     let k = c .before .before .before .before .before .before .before .before .before .before .corner-of in
     let y = c .before .before .before .before .before .before .before .before .is-whole .ensures .0 (not-false _ (c .before .before .before .before .before .before .before .if1 .left)) in
     let p = c .before .before .place-rows in
-    answers-included (a .recipe .now) (a .labels .now) (a .depths .now) (a .names .now) (a .map .now) (start .pre .0) (start .pre .1) (b .last .1 .0) (b .ensures) (w .result) (w .ensures .0) (k .result) (k .ensures) y (p .last .1 .1 .1 .1 .1 .1 .1 .0) (p .ensures .0) (p .ensures .1)
+    answers-included (a .recipe .now) (a .labels .now) (a .depths .now) (a .names .now) (a .map .now) (start .pre .0) (start .pre .1) (b .last .1 .0) (b .ensures) (w .result .corner) (w .ensures .0 .0) (k .result) (k .ensures) y (p .last .1 .1 .1 .1 .1 .1 .1 .1 .0) (p .ensures .0) (p .ensures .1)
 
 pub answer-good-spec : {M : Type 1} → statement M
 answer-good-spec =

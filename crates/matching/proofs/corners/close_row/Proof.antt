@@ -1,5 +1,6 @@
 -- `matching::corners::close_row` meets its contract: the corner of a tree, from the corner of the rows below its root. Assumes nothing.
-use Rattle.matching.proofs.CornerWords.{words-new, words-empty, words-top, words-wide, words-raise, words-other}
+use Rattle.matching.proofs.CornerWords.{words-new, words-empty, words-top, words-wide, words-raise, words-other, leaf-labelled, parent-labelled}
+use native.Mathlib.Omega.{arith}
 use Rattle.matching.specs.Room.{recipeOf}
 use borrow.Author.Needs.{needs}
 use Rattle.matching.proofs.corners.close_row.Statement.{statement}
@@ -9,7 +10,9 @@ leaf-of-requires : tie.Need-leaf-of-requires
 leaf-of-requires c κs = search needs
 
 label-of-requires : tie.Need-label-of-requires
-label-of-requires c κs = search needs
+label-of-requires c κs =
+    let start = c .before .before .before in
+    omega (arith, c .leaf-of .ensures, leaf-labelled (start .args .shape .now) (start .args .labels .now) (start .pre .0) (start .args .x) (start .pre .1 .0))
 
 returns : tie.Need-returns
 returns c =
@@ -53,7 +56,9 @@ parent-of-requires : tie.Need-parent-of-requires
 parent-of-requires c κs = search needs
 
 label-of-requires-2 : tie.Need-label-of-requires-2
-label-of-requires-2 c κs = search needs
+label-of-requires-2 c κs =
+    let start = c .before .before .before .before .before .before .before .before in
+    omega (arith, c .parent-of .ensures, parent-labelled (start .args .shape .now) (start .args .labels .now) (start .pre .0) (start .args .w) (start .pre .1 .1))
 
 returns-5 : tie.Need-returns-5
 returns-5 c =

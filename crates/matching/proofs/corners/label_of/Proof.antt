@@ -1,6 +1,6 @@
--- `matching::corners::label_of` meets its contract: the label of a recipe row, or of a listing row. Assumes nothing.
+-- `matching::corners::label_of` meets its contract: the label of a recipe row. Assumes nothing.
 use native.Mathlib.Omega.{arith}
-use Rattle.rows.proofs.AtLaws.{at-row, at-none}
+use Rattle.rows.proofs.AtLaws.{at-row}
 use mathlib.Core.Path.{sym}
 use borrow.Author.Needs.{needs}
 use Rattle.matching.proofs.corners.label_of.Statement.{statement}
@@ -8,9 +8,6 @@ use Rattle.matching.proofs.corners.label_of.Tie as tie
 
 returns : tie.Need-returns
 returns c = search needs
-
-returns-2 : tie.Need-returns-2
-returns-2 c = sym (at-none (c .before .before .args .labels .now) (c .before .before .args .v) (c .if2 .taken))
 
 sub-result : tie.Need-sub-result
 sub-result c = search needs
@@ -21,9 +18,8 @@ mul-result c = search needs
 shared-slice-read-result : tie.Need-shared-slice-read-result
 shared-slice-read-result c = search needs
 
-returns-3 : tie.Need-returns-3
-returns-3 c = sym (at-row (c .before .before .before .args .labels .now) (c .before .before .before .args .v) (omega arith))
+returns-2 : tie.Need-returns-2
+returns-2 c = sym (at-row (c .before .before .args .labels .now) (c .before .before .args .v) (omega arith))
 
 pub label-of-spec : {M : Type 1} → statement M
-label-of-spec =
-    tie.close (tie.spec returns returns-2 sub-result mul-result shared-slice-read-result returns-3)
+label-of-spec = tie.close (tie.spec returns sub-result mul-result shared-slice-read-result returns-2)

@@ -1,176 +1,113 @@
 -- `matching::seek::seek` meets its contract: the row found is the first to close that holds the recipe row. Assumes nothing.
-use Rattle.rows.proofs.AtLaws.{at-row}
-use mathlib.Core.Path.{_≡_, sym, _∙_}
-use mathlib.Core.Bool.{true≢false}
-use Prim.Native.Nat.{suc, _-_, _≤_}
+use mathlib.Core.Path.{_≡_, refl, sym, ap, _∙_}
+use Prim.Native.Nat.{suc, _+_, _-_, _≤_}
 use native.Mathlib.Omega.{arith}
-use native.Mathlib.Numerals.{add-one}
-use lib.ListN.{length}
+use lib.ListN.{length, length-set}
+use Rattle.rows.specs.Rows.{depth}
 use Rattle.rows.specs.Embedding.{SameLabel}
-use Rattle.matching.specs.Shape.{word}
-use Rattle.matching.specs.Placing.{Seeking}
+use Rattle.rows.specs.Forest.{size, forestAt}
+use Rattle.rows.proofs.Windows.{at-step, window-at}
+use Rattle.matching.specs.Asked.{Asked, chain}
+use Rattle.matching.specs.Placing.{HeldIn}
 use Rattle.matching.specs.Room.{recipeOf, roomWords}
-use Rattle.matching.proofs.Seeking.{seeking-row}
-use Rattle.matching.proofs.SeekSteps.{at-row-lo, below-fits, tree-fits, step-enter, step-here, step-beyond}
+use Rattle.matching.proofs.Alone.{alone-chain, alone-asked}
+use Rattle.matching.proofs.Held.{stands-ends}
+use Rattle.matching.proofs.Passes.{none-more, found-more}
+use Rattle.matching.proofs.Written.{room-levels}
+use borrow.Author.Needs.{needs}
 use Rattle.matching.proofs.seek.seek.Statement.{statement}
 use Rattle.matching.proofs.seek.seek.Tie as tie
 
 abbrev Inv-loop : tie.InvT-loop
-Inv-loop depths names shape labels asked₀ room₀ v from to d lo₀ hi₀ asked room lo hi = Seeking (SameLabel labels names) (recipeOf shape labels) depths v from to lo hi × (length asked ≡ 513) × (length room ≡ roomWords)
+Inv-loop depths names shape labels asked₀ room₀ v from at₀ asked room at =
+    (from ≤ at) × Asked (length (recipeOf shape labels)) asked 1 × (chain asked 0 ≡ v) × (length room ≡ roomWords)
+    × (HeldIn (SameLabel labels names) (recipeOf shape labels) depths v (suc from) at → ⊥)
 
 abbrev μ-loop : tie.MeasureT-loop
-μ-loop depths names shape labels asked₀ room₀ v from to d lo₀ hi₀ asked room lo hi = suc hi - lo
+μ-loop depths names shape labels asked₀ room₀ v from at₀ asked room at = length depths - at
 
-depth-of-requires : tie.Need-depth-of-requires Inv-loop μ-loop
-depth-of-requires c κs = let start = c .before .before .before in omega (arith, start .pre .0 .1, start .pre .0 .0 .shape .few)
+element-write-asked : tie.Need-element-write-asked Inv-loop μ-loop
+element-write-asked c = search needs
+
+add-asked : tie.Need-add-asked Inv-loop μ-loop
+add-asked c = search needs
+
+mul-asked : tie.Need-mul-asked Inv-loop μ-loop
+mul-asked c = let start = c .before .before .before in omega (arith, start .pre .0 .1, start .pre .0 .0 .shape .few)
+
+element-write-asked-2 : tie.Need-element-write-asked-2 Inv-loop μ-loop
+element-write-asked-2 c =
+    let start = c .before .before .before in
+    omega (arith, start .pre .0 .1, start .pre .0 .0 .shape .few, start .pre .1 .1 .0, length-set (start .args .asked .now) 0 (start .args .v))
 
 loop-holds : tie.Need-loop-holds Inv-loop μ-loop
 loop-holds c =
-    let start = c .before .before .before .before in
-    (start .pre .1 .0, start .pre .1 .1 .0, start .pre .1 .1 .1)
+    let start = c .before .before .before in
+    let a = start .args in
+    let high : a .v ≤ 256 = omega (arith, start .pre .0 .1, start .pre .0 .0 .shape .few) in (
+      omega arith,
+      alone-asked (a .asked .now) (a .v) (start .pre .1 .1 .0) high _ (start .pre .0 .1 .0) (start .pre .0 .1 .1),
+      alone-chain (a .asked .now) (a .v) (start .pre .1 .1 .0) high,
+      start .pre .1 .1 .1,
+      λ i. omega (arith, i .1, i .2),
+    )
 
-sub-below-corner : tie.Need-sub-below-corner Inv-loop μ-loop
-sub-below-corner c = c .before .before .before .loop .inv .0 .begins
-
-below-corner-requires : tie.Need-below-corner-requires Inv-loop μ-loop
-below-corner-requires c κs =
+forest-corners-requires : tie.Need-forest-corners-requires Inv-loop μ-loop
+forest-corners-requires c κs =
     let turn = c .before .before .before in
-    let start = turn .before .before .before .before .before in
-    let a = start .args in
-    let one = turn .loop .inv .0 .begins in
-    ((start .pre .0 .0, omega (arith, seeking-row (SameLabel (a .labels .now) (a .names .now)) (recipeOf (a .shape .now) (a .labels .now)) (a .depths .now) (start .pre .0 .0 .outline) (start .pre .0 .0 .listing .outline) (a .v) (start .pre .0 .1) (a .from) (a .to) (turn .loop .lo) (turn .loop .hi) (turn .loop .inv .0)), start .pre .0 .1), (turn .loop .inv .1, turn .loop .inv .2))
+    let start = turn .before .before .before .before in
+    let i = turn .loop .inv in (
+      (start .pre .0 .0, omega (arith, c .before .before .loop-test .taken), (omega arith, λ o. sym (i .2))),
+      record { chains = i .1; words = i .3; room = omega (arith, room-levels 1 (64 - depth (start .args .depths .now) (suc (turn .loop .at))) 64 (omega arith)) },
+    )
 
-is-level-requires : tie.Need-is-level-requires Inv-loop μ-loop
-is-level-requires c κs =
-    let turn = c .before .before .before .before in
-    let start = turn .before .before .before .before .before in
-    let a = start .args in
-    let one = turn .loop .inv .0 .begins in
-    let b = c .below-corner in
-    let e = at-row-lo (a .shape .now) (a .labels .now) (a .depths .now) (a .names .now) (a .v) (turn .loop .lo) (b .result .last) (b .result .corner) one (b .ensures .0) in
-    omega (arith, below-fits (a .shape .now) (a .labels .now) (a .depths .now) (a .names .now) (start .pre .0 .0) (a .v) (start .pre .0 .1) (turn .before .depth-of .result) (turn .before .depth-of .ensures) (a .from) (a .to) (turn .loop .lo) (turn .loop .hi) (turn .loop .inv .0) (b .result .corner) (e .1), start .pre .0 .0 .shape .few)
-
-add-lo : tie.Need-add-lo Inv-loop μ-loop
-add-lo c =
-    let turn = c .before .before .before .before .before .before in
-    let start = turn .before .before .before .before .before in
-    let a = start .args in
-    let one = turn .loop .inv .0 .begins in
-    omega (arith, seeking-row (SameLabel (a .labels .now) (a .names .now)) (recipeOf (a .shape .now) (a .labels .now)) (a .depths .now) (start .pre .0 .0 .outline) (start .pre .0 .0 .listing .outline) (a .v) (start .pre .0 .1) (a .from) (a .to) (turn .loop .lo) (turn .loop .hi) (turn .loop .inv .0))
-
-loop-less : tie.Need-loop-less Inv-loop μ-loop
-loop-less c =
-    let turn = c .before .before .before .before .before .before in
-    let start = turn .before .before .before .before .before in
-    let a = start .args in
-    let one = turn .loop .inv .0 .begins in
-    let b = c .before .before .below-corner in
-    let e = at-row-lo (a .shape .now) (a .labels .now) (a .depths .now) (a .names .now) (a .v) (turn .loop .lo) (b .result .last) (b .result .corner) one (b .ensures .0) in
-    omega (arith, seeking-row (SameLabel (a .labels .now) (a .names .now)) (recipeOf (a .shape .now) (a .labels .now)) (a .depths .now) (start .pre .0 .0 .outline) (start .pre .0 .0 .listing .outline) (a .v) (start .pre .0 .1) (a .from) (a .to) (turn .loop .lo) (turn .loop .hi) (turn .loop .inv .0), e .0)
-
-loop-again : tie.Need-loop-again Inv-loop μ-loop
-loop-again c =
-    let turn = c .before .before .before .before .before .before in
-    let start = turn .before .before .before .before .before in
-    let a = start .args in
-    let one = turn .loop .inv .0 .begins in
-    let b = c .before .before .below-corner in
-    let e = at-row-lo (a .shape .now) (a .labels .now) (a .depths .now) (a .names .now) (a .v) (turn .loop .lo) (b .result .last) (b .result .corner) one (b .ensures .0) in
-    let i = c .before .is-level .ensures .0 (c .if1 .taken) in
-    (rw (add-one (turn .loop .lo), e .0) (step-enter (a .shape .now) (a .labels .now) (a .depths .now) (a .names .now) (start .pre .0 .0) (a .v) (start .pre .0 .1) (turn .before .depth-of .result) (turn .before .depth-of .ensures) (a .from) (a .to) (turn .loop .lo) (turn .loop .hi) (turn .loop .inv .0) (b .result .corner) (e .1) i), b .ensures .1 .0, b .ensures .1 .1)
-
-sub-close-row : tie.Need-sub-close-row Inv-loop μ-loop
-sub-close-row c = c .before .before .before .before .before .before .loop .inv .0 .begins
-
-mul-close-row : tie.Need-mul-close-row Inv-loop μ-loop
-mul-close-row c =
-    let turn = c .before .before .before .before .before .before in
-    let start = turn .before .before .before .before .before in
-    let a = start .args in
-    let one = turn .loop .inv .0 .begins in
-    omega (arith, seeking-row (SameLabel (a .labels .now) (a .names .now)) (recipeOf (a .shape .now) (a .labels .now)) (a .depths .now) (start .pre .0 .0 .outline) (start .pre .0 .0 .listing .outline) (a .v) (start .pre .0 .1) (a .from) (a .to) (turn .loop .lo) (turn .loop .hi) (turn .loop .inv .0))
-
-shared-slice-read-close-row : tie.Need-shared-slice-read-close-row Inv-loop μ-loop
-shared-slice-read-close-row c =
-    let turn = c .before .before .before .before .before .before .before in
-    let start = turn .before .before .before .before .before in
-    let a = start .args in
-    let one = turn .loop .inv .0 .begins in
-    omega (arith, seeking-row (SameLabel (a .labels .now) (a .names .now)) (recipeOf (a .shape .now) (a .labels .now)) (a .depths .now) (start .pre .0 .0 .outline) (start .pre .0 .0 .listing .outline) (a .v) (start .pre .0 .1) (a .from) (a .to) (turn .loop .lo) (turn .loop .hi) (turn .loop .inv .0), start .pre .0 .0 .names)
-
-close-row-requires : tie.Need-close-row-requires Inv-loop μ-loop
-close-row-requires c κs =
-    let turn = c .before .before .before .before .before .before .before in
-    let start = turn .before .before .before .before .before in
-    let a = start .args in
-    let one = turn .loop .inv .0 .begins in
-    let b = c .before .before .before .below-corner in
-    let e = at-row-lo (a .shape .now) (a .labels .now) (a .depths .now) (a .names .now) (a .v) (turn .loop .lo) (b .result .last) (b .result .corner) one (b .ensures .0) in
-    (start .pre .0 .0 .shape, (start .pre .0 .1 .1, below-fits (a .shape .now) (a .labels .now) (a .depths .now) (a .names .now) (start .pre .0 .0) (a .v) (start .pre .0 .1) (turn .before .depth-of .result) (turn .before .depth-of .ensures) (a .from) (a .to) (turn .loop .lo) (turn .loop .hi) (turn .loop .inv .0) (b .result .corner) (e .1)))
-
-is-level-requires-2 : tie.Need-is-level-requires-2 Inv-loop μ-loop
-is-level-requires-2 c κs =
-    let turn = c .before .before .before .before .before .before .before .before in
-    let start = turn .before .before .before .before .before in
-    let a = start .args in
-    let one = turn .loop .inv .0 .begins in
-    let b = c .before .before .before .before .below-corner in
-    let e = at-row-lo (a .shape .now) (a .labels .now) (a .depths .now) (a .names .now) (a .v) (turn .loop .lo) (b .result .last) (b .result .corner) one (b .ensures .0) in
-    let o = rw (← at-row (a .names .now) (turn .loop .lo) one) at (c .close-row .ensures) in
-    omega (arith, tree-fits (a .shape .now) (a .labels .now) (a .depths .now) (a .names .now) (start .pre .0 .0) (a .v) (start .pre .0 .1) (turn .before .depth-of .result) (turn .before .depth-of .ensures) (a .from) (a .to) (turn .loop .lo) (turn .loop .hi) (turn .loop .inv .0) (b .result .corner) (e .1) (c .close-row .result) o, start .pre .0 .0 .shape .few)
+enum-known-pass : tie.Need-enum-known-pass Inv-loop μ-loop
+enum-known-pass c = search needs
 
 returns : tie.Need-returns Inv-loop μ-loop
 returns c =
-    let turn = c .before .before .before .before .before .before .before .before .before .before in
-    let start = turn .before .before .before .before .before in
+    let turn = c .before .before .before .before .before .before .before in
+    let start = turn .before .before .before .before in
     let a = start .args in
-    let one = turn .loop .inv .0 .begins in
-    let b = c .before .before .before .before .before .before .below-corner in
-    let e = at-row-lo (a .shape .now) (a .labels .now) (a .depths .now) (a .names .now) (a .v) (turn .loop .lo) (b .result .last) (b .result .corner) one (b .ensures .0) in
-    let o = rw (← at-row (a .names .now) (turn .loop .lo) one) at (c .before .before .close-row .ensures) in
-    let no-below : (1 ≤ b .result .corner) × (word 3 (a .shape .now) (b .result .corner) ≡ turn .before .depth-of .result) → ⊥ = λ h. true≢false (sym (c .before .before .before .before .before .is-level .ensures .1 h) ∙ c .before .before .before .before .if1 .left) in
-    (step-here (a .shape .now) (a .labels .now) (a .depths .now) (a .names .now) (start .pre .0 .0) (a .v) (start .pre .0 .1) (turn .before .depth-of .result) (turn .before .depth-of .ensures) (a .from) (a .to) (turn .loop .lo) (turn .loop .hi) (turn .loop .inv .0) (b .result .corner) (e .1) (c .before .before .close-row .result) o no-below (c .before .is-level2 .ensures .0 (c .if2 .taken)), (b .ensures .1 .0, b .ensures .1 .1))
+    let i = turn .loop .inv in
+    let at = turn .loop .at in
+    let h = c .before .before .before .before .before .before .loop-test .taken in
+    let p = rw (c .before .pass .given .1) at (c .before .before .before .forest-corners .ensures) in
+    let w = window-at (a .depths .now) (start .pre .0 .0 .listing .outline) at (depth (a .depths .now) (suc at)) (omega arith) (λ l. omega arith) in
+    let t = c .before .pass .given .0 .0 in
+    (found-more (a .shape .now) (a .labels .now) (a .depths .now) (a .names .now) (start .pre .0 .0) (a .v) (start .pre .0 .1) (a .from) at _ (i .0) (i .4) t (length (a .depths .now)) (w .fits) (omega arith) (stands-ends (a .depths .now) at (forestAt (a .depths .now) at (depth (a .depths .now) (suc at))) (w .stands) t (omega (arith, p .1 .low, p .1 .high))) (p .1), (p .2, p .3))
 
-add-lo-2 : tie.Need-add-lo-2 Inv-loop μ-loop
-add-lo-2 c =
-    let turn = c .before .before .before .before .before .before .before .before .before .before .before in
-    let start = turn .before .before .before .before .before in
-    let a = start .args in
-    let one = turn .loop .inv .0 .begins in
-    let b = c .before .before .before .before .before .before .before .below-corner in
-    let e = at-row-lo (a .shape .now) (a .labels .now) (a .depths .now) (a .names .now) (a .v) (turn .loop .lo) (b .result .last) (b .result .corner) one (b .ensures .0) in
-    omega (arith, seeking-row (SameLabel (a .labels .now) (a .names .now)) (recipeOf (a .shape .now) (a .labels .now)) (a .depths .now) (start .pre .0 .0 .outline) (start .pre .0 .0 .listing .outline) (a .v) (start .pre .0 .1) (a .from) (a .to) (turn .loop .lo) (turn .loop .hi) (turn .loop .inv .0), e .0)
+enum-known-pass-2 : tie.Need-enum-known-pass-2 Inv-loop μ-loop
+enum-known-pass-2 c = search needs
 
-loop-less-2 : tie.Need-loop-less-2 Inv-loop μ-loop
-loop-less-2 c =
-    let turn = c .before .before .before .before .before .before .before .before .before .before .before in
-    let start = turn .before .before .before .before .before in
+loop-less : tie.Need-loop-less Inv-loop μ-loop
+loop-less c =
+    let turn = c .before .before .before .before .before .before .before in
+    let start = turn .before .before .before .before in
     let a = start .args in
-    let one = turn .loop .inv .0 .begins in
-    let b = c .before .before .before .before .before .before .before .below-corner in
-    let e = at-row-lo (a .shape .now) (a .labels .now) (a .depths .now) (a .names .now) (a .v) (turn .loop .lo) (b .result .last) (b .result .corner) one (b .ensures .0) in
-    omega (arith, seeking-row (SameLabel (a .labels .now) (a .names .now)) (recipeOf (a .shape .now) (a .labels .now)) (a .depths .now) (start .pre .0 .0 .outline) (start .pre .0 .0 .listing .outline) (a .v) (start .pre .0 .1) (a .from) (a .to) (turn .loop .lo) (turn .loop .hi) (turn .loop .inv .0), e .0)
+    let p = rw (c .before .pass2 .given .1) at (c .before .before .before .forest-corners .ensures) in
+    omega (arith, p .0, c .before .before .before .before .before .before .loop-test .taken, ap size (at-step (a .depths .now) (turn .loop .at) _ (c .before .before .before .before .before .before .loop-test .taken) refl))
 
-loop-again-2 : tie.Need-loop-again-2 Inv-loop μ-loop
-loop-again-2 c =
-    let turn = c .before .before .before .before .before .before .before .before .before .before .before in
-    let start = turn .before .before .before .before .before in
+loop-again : tie.Need-loop-again Inv-loop μ-loop
+loop-again c =
+    let turn = c .before .before .before .before .before .before .before in
+    let start = turn .before .before .before .before in
     let a = start .args in
-    let one = turn .loop .inv .0 .begins in
-    let b = c .before .before .before .before .before .before .before .below-corner in
-    let e = at-row-lo (a .shape .now) (a .labels .now) (a .depths .now) (a .names .now) (a .v) (turn .loop .lo) (b .result .last) (b .result .corner) one (b .ensures .0) in
-    let o = rw (← at-row (a .names .now) (turn .loop .lo) one) at (c .before .before .before .close-row .ensures) in (
-      rw (add-one (b .result .last), e .0) (step-beyond (a .shape .now) (a .labels .now) (a .depths .now) (a .names .now) (start .pre .0 .0) (a .v) (start .pre .0 .1) (turn .before .depth-of .result) (turn .before .depth-of .ensures) (a .from) (a .to) (turn .loop .lo) (turn .loop .hi) (turn .loop .inv .0) (b .result .corner) (e .1) (c .before .before .before .close-row .result) o
-          (λ h. true≢false (sym (c .before .before .is-level2 .ensures .1 h) ∙ c .before .if2 .left))),
-      b .ensures .1 .0,
-      b .ensures .1 .1,
+    let i = turn .loop .inv in
+    let p = rw (c .before .pass2 .given .1) at (c .before .before .before .forest-corners .ensures) in (
+      omega (arith, i .0, p .0),
+      p .1 .chains,
+      p .1 .keep 0 (omega arith) ∙ i .2,
+      p .1 .words,
+      rw (p .0) (none-more (a .shape .now) (a .labels .now) (a .depths .now) (a .names .now) (start .pre .0 .0) (a .v) (start .pre .0 .1) (a .from) (turn .loop .at) _ (i .0) (i .4) (p .2 (start .pre .0 .1 .0))),
     )
 
 returns-2 : tie.Need-returns-2 Inv-loop μ-loop
 returns-2 c =
     let turn = c .before in
-    let h = turn .loop .inv .0 .held in
-    absurd (omega (arith, c .loop-test .left))
+    let start = turn .before .before .before .before in
+    let h = start .pre .1 .0 in
+    absurd (turn .loop .inv .4 (h .0, h .1, omega (arith, h .2), h .3))
 
 pub seek-spec : {M : Type 1} → statement M
 seek-spec =
@@ -178,21 +115,15 @@ seek-spec =
     (tie.spec
     Inv-loop
     μ-loop
-    depth-of-requires
+    element-write-asked
+    add-asked
+    mul-asked
+    element-write-asked-2
     loop-holds
-    sub-below-corner
-    below-corner-requires
-    is-level-requires
-    add-lo
+    forest-corners-requires
+    enum-known-pass
+    returns
+    enum-known-pass-2
     loop-less
     loop-again
-    sub-close-row
-    mul-close-row
-    shared-slice-read-close-row
-    close-row-requires
-    is-level-requires-2
-    returns
-    add-lo-2
-    loop-less-2
-    loop-again-2
     returns-2)
