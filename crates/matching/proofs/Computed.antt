@@ -89,6 +89,7 @@ module _ (rd rl td tl : List ℕ) where
     kt : Outline td
     kt = g .listing-formed .outline
 
+    -- the tests are right
     tree-in : (v : ℕ) → Row rd v → (f : Forest ℕ) → (treeIn v f ≡ true) ↔ LiesIn Fit (cons v (below rd v) nil) f
     tree-in v r f =
         let t = tree-row Fit (sameLabel rl tl) (same-right rl tl) rd kr v r f in
@@ -130,6 +131,7 @@ module _ (rd rl td tl : List ℕ) where
               (image-first (suc n) (omega arith) _ _ (suc (length td)) _ _ s (omega (arith, s .ends, s .begins))),
         )
 
+    -- the corner is whole just where the test says so
     whole-test : (isWhole ≡ true) ↔ WholeCorner rd (corner .width) (corner .row)
     whole-test =
         let b = both-true (eqb (corner .row) 0) (eqb (cornerEnd rd 0 (corner .width)) (length rd)) in (

@@ -25,7 +25,8 @@ use Rattle.host.proofs.OneLine.{entry-is}
 use Rattle.host.proofs.Reading.{zeros-length}
 use Rattle.promises.specs.Examples.{Example, asks, edits, over, bytes, input, Says, Every, end, _&_, examples}
 
--- an example comes to what it says by computing
+-- what computing must show of an example: the answer and its images, the line, and that the two parcels are read as the tables; or what
+-- the call answers and leaves
 abbrev Comes : Example → Type 0
 Comes (asks rd rl td tl a images line) =
     Computed rd rl td tl a images
@@ -35,6 +36,7 @@ Comes (asks rd rl td tl a images line) =
 Comes (edits s (strikeRow r) a t) = (strikeAnswer s r ≡ a) × (afterStrike s r ≡ t)
 Comes (edits s undoLast a t) = (undoAnswer s ≡ a) × (afterUndo s ≡ t)
 
+-- then the example holds: of all outcomes that meet the contracts
 says : (x : Example) → Comes x → Says x
 says (asks rd rl td tl a images line) c =
     let n = over images (zeros recipeRows) in
@@ -47,6 +49,7 @@ says (asks rd rl td tl a images line) c =
 says (edits s (strikeRow r) a t) c = λ o. rw (c .0, c .1) (λ m. m, λ m. m)
 says (edits s undoLast a t) c = λ o. rw (c .0, c .1) (λ m. m, λ m. m)
 
+-- and so does a table of them
 all-say : {xs : List Example} → Every Comes xs → Every Says xs
 all-say end = end
 all-say (_&_ {x} c cs) = says x c & all-say cs

@@ -36,14 +36,21 @@ over new old = new ++ drop (length new) old
 abbrev pub input : List ℕ → List ℕ → List ℕ → List ℕ → List ℕ
 input rd rl td tl = parcelOf rd rl ++ parcelOf td tl
 
--- what it says: an outcome meets the contract of `include` just if it is that answer, with the images in front of the old slots of
--- the map, and one of the C entry, on the two parcels, just if it is that line; an outcome meets the contract of `strike` or `undo`
--- just if it is that answer and leaves that
+-- an outcome of `include`, on any map slice long enough, meets its contract just if it is the answer a with the images in front of
+-- the old slots
+abbrev pub IncludeGives : List ℕ → List ℕ → List ℕ → List ℕ → Answer → List ℕ → Type 0
+IncludeGives rd rl td tl a images =
+    (m : List ℕ) → length rd ≤ length m → (r : Answer) (n : List ℕ) → Answers rd rl td tl m r n ↔ ((r ≡ a) × (n ≡ over images m))
+
+-- an outcome of the C entry, on any buffer large enough, meets its contract just if it is the line xs in front of the old bytes
+abbrev pub EntryGives : List ℕ → List ℕ → Type 0
+EntryGives read xs =
+    (m : List ℕ) → answerBytes ≤ length m → (r : ℕ) (n : List ℕ) → Entry read m r n ↔ ((r ≡ length xs) × (n ≡ over xs m))
+
+-- what an example says: `include` and, on the two parcels, the C entry give just that; an outcome meets the contract of `strike` or
+-- `undo` just if it is that answer and leaves that
 abbrev pub Says : Example → Type 0
-Says (asks rd rl td tl a images line) =
-    ((m : List ℕ) → length rd ≤ length m → (r : Answer) (n : List ℕ) → Answers rd rl td tl m r n ↔ ((r ≡ a) × (n ≡ over images m)))
-    × ((buffer : List ℕ) → answerBytes ≤ length buffer → (r : ℕ) (n : List ℕ)
-    → Entry (input rd rl td tl) buffer r n ↔ ((r ≡ length (bytes line)) × (n ≡ over (bytes line) buffer)))
+Says (asks rd rl td tl a images line) = IncludeGives rd rl td tl a images × EntryGives (input rd rl td tl) (bytes line)
 Says (edits s (strikeRow r) a t) = (o : Outcome) → MeetsStrike s r o ↔ Meets o a t
 Says (edits s undoLast a t) = (o : Outcome) → MeetsUndo s o ↔ Meets o a t
 
