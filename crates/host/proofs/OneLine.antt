@@ -1,14 +1,16 @@
 -- One input has one line, and one call of the C entry one outcome. Assumes nothing.
-use mathlib.Core.Path.{_≡_, sym, ap, _∙_}
+use mathlib.Core.Path.{_≡_, refl, sym, ap, subst₂, _∙_}
 use mathlib.Core.Bool.{Bool, true, false}
 use mathlib.Core.List.{List, _++_}
-use Prim.Native.Nat.{ℕ}
+use mathlib.Core.Logic.{_↔_}
+use Prim.Native.Nat.{ℕ, _≤_}
 use contract.Lifetimes.{Lfts}
 use denote.Ref.{now}
 use denote.Triple.Clauses.{AtExit}
 use borrow.Fn.Kinds.{Dens, resT, endedOf}
 use lib.Dec.{ltb}
 use lib.ListN.{length, drop}
+use borrow.Author.Tests.{le-ltb}
 use Rattle.rows.specs.Limits.{recipeRows}
 use Rattle.parcels.specs.declared.ReadAnswer.{ReadAnswer}
 use Rattle.parcels.specs.declared.ReadAnswer.the-variants as reading
@@ -57,6 +59,14 @@ entry-one input before r s x y e d = go (ltb (length before) answerBytes) (e .by
     go false f g =
         let same = line-one input (f .bytes) (g .bytes) (f .line) (g .line) in
         (f .count ∙ ap length same ∙ sym (g .count), f .stored ∙ ap (λ (l : List ℕ). l ++ drop (length l) before) same ∙ sym (g .stored))
+
+-- where the buffer has room, an outcome is right just if it is the input's line
+pub entry-is : (input xs : List ℕ) → LineIs input xs → (buffer : List ℕ) → answerBytes ≤ length buffer → (r : ℕ) (n : List ℕ)
+    → Entry input buffer r n ↔ ((r ≡ length xs) × (n ≡ xs ++ drop (length xs) buffer))
+entry-is input xs l buffer h r n =
+    let k : Entry input buffer (length xs) (xs ++ drop (length xs) buffer) =
+    record { by-room = rw (le-ltb (length buffer) answerBytes h) (record { bytes = xs; line = l; count = refl; stored = refl }) } in
+    (λ e. entry-one input buffer r (length xs) n (xs ++ drop (length xs) buffer) e k, λ e. subst₂ (Entry input buffer) (sym (e .0)) (sym (e .1)) k)
 
 -- so two outcomes that meet the contract of `polashvek_answer` are equal: the answer, and every byte of the buffer
 pub one-answer : (κs : Lfts 2) (args : Dens κs entry.ps) (r s : resT entry.r κs .Denot) (x y : AtExit (endedOf 2 entry.ps entry.r) κs)

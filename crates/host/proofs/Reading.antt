@@ -12,7 +12,7 @@ use Rattle.parcels.proofs.LittleEndian.{numbers-length}
 use Rattle.parcels.proofs.Accepting.{accepted}
 use Rattle.host.specs.Outcome.{zeros}
 
-zeros-length : (n : ℕ) → length (zeros n) ≡ n
+pub zeros-length : (n : ℕ) → length (zeros n) ≡ n
 unfolding zeros
 zeros-length n = length-replicate n 0
 

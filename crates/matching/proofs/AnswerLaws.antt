@@ -5,7 +5,6 @@ use mathlib.Core.List.{List, _++_}
 use mathlib.Core.Logic.{_↔_}
 use Prim.Native.Nat.{ℕ, _+_, _-_, _≤_, _<_}
 use native.Mathlib.Omega.{arith}
-use native.Mathlib.Decide.{ℕ-discrete}
 use lib.Dec.{ltb}
 use lib.ListN.{length, take, drop, take-append-drop}
 use borrow.Author.Tests.{lt-ltb, le-ltb}
@@ -29,11 +28,11 @@ use Rattle.matching.specs.declared.tables.Tables.the-variants.{Fine, Ref
 use Rattle.matching.specs.Refusals.{refusedIf, first, tablesCheck, GoodTables}
 use Rattle.matching.specs.Answer.{includeCheck, Answers}
 use Rattle.matching.proofs.Refusals.{tables-fine}
-use Rattle.matching.proofs.CornerLaws.{corner-one, corner-is, corner-none, included-row, whole-iff}
+use Rattle.matching.proofs.CornerLaws.{corner-one, corner-at, included-row, whole-iff}
 use Rattle.matching.proofs.CornerRow.{corner-fits}
 use Rattle.matching.proofs.EarliestClose.{earliest-one}
 use Rattle.matching.proofs.Passes.{same-right}
-use Rattle.matching.proofs.Width.{recipe-of, width-none, width-some}
+use Rattle.matching.proofs.Width.{recipe-of}
 
 -- refused for the tables, or for the map, or not at all
 module _ (rd rl td tl m : List ℕ) where
@@ -78,15 +77,8 @@ module _ (rd rl td tl m : List ℕ) (g : GoodTables rd rl td tl) (room : length 
 
     -- the corner is document 01's
     corner-right : (i v : ℕ) → (i ≡ widthAt rd w) × (v ≡ rowAt rd w) → CornerIs Fit rd td i v
-    corner-right i v p = go (ℕ-discrete w 0)
-      where
-        go : Dec (w ≡ 0) → CornerIs Fit rd td i v
-        go (yes z) =
-            let n = width-none rd w z in
-            rw (p .0 ∙ n .0, p .1 ∙ n .1) (corner-none Fit rd td kr (g .recipe-some) kt (sameLabel rl tl) (same-right rl tl) (sym top ∙ z))
-        go (no z) =
-            let n = width-some rd w z in
-            rw (p .0 ∙ n .0, p .1 ∙ n .1, top) (corner-is Fit rd td kr (g .recipe-some) kt (sameLabel rl tl) (same-right rl tl) (omega (arith, top)))
+    corner-right i v p =
+        rw (p .0, p .1) (corner-at Fit rd td kr (g .recipe-some) kt (sameLabel rl tl) (same-right rl tl) w top)
 
     -- and whole just on a yes
     pub whole-included : ((1 ≤ w) × (word 3 ws w ≡ 0) × (word 1 ws w ≡ 0)) ↔ Included Fit rd td

@@ -1,6 +1,6 @@
 -- The corner of document 01: it is the pair of place and parent of the row `cornerAt`, there is only one, and it is the whole
 -- recipe just where the listing includes the recipe. Assumes nothing.
-use mathlib.Core.Path.{_≡_, refl, sym, ap, _∙_}
+use mathlib.Core.Path.{_≡_, refl, sym, ap, subst, _∙_}
 use mathlib.Core.Bool.{Bool, true}
 use mathlib.Core.Logic.{_↔_}
 use mathlib.Core.List.{List}
@@ -20,7 +20,7 @@ use Rattle.rows.proofs.Windows.{window-below, size-below, stands-forest, size-f
 use Rattle.rows.proofs.Inclusion.{maps-iff, included-iff}
 use Rattle.matching.specs.Family.{parent, rightSibling, leftLeaf}
 use Rattle.matching.specs.Corner.{cornerEnd, HasSubtrees, CornerEmbeds, CornerIs, WholeCorner}
-use Rattle.matching.specs.CornerRow.{fromRow, place, cornerAt}
+use Rattle.matching.specs.CornerRow.{fromRow, place, cornerAt, widthAt, rowAt}
 use Rattle.matching.proofs.Lies.{roots}
 use Rattle.matching.proofs.Cut.{rootAt, firstTrees, spine, levels, first-all, some-level, spine-suc}
 use Rattle.matching.proofs.Best.{Best}
@@ -248,6 +248,11 @@ module _ (Fit : ℕ → ℕ → Type 0) (rd td : List ℕ) (kr : Outline rd) (on
         go zero v b e =
             let l : leftLeaf rd 1 ≡ v = omega (arith, b .empty refl, last-level, ap levels first) in rw l (corner-from 0 v (rw first at b))
         go (suc i) v b e = absurd (omega (arith, corner-sibling rd kr 1 v i w row-one (b .has) e .row))
+
+    -- both as the pair that the row's number gives
+    pub corner-at : (x : ℕ) → x ≡ w → CornerIs Fit rd td (widthAt rd x) (rowAt rd x)
+    corner-at zero e = corner-none (sym e)
+    corner-at (suc z) e = subst (λ (x : ℕ). CornerIs Fit rd td (place rd x) (parent rd x)) (sym e) (corner-is (omega (arith, e)))
 
     -- the listing includes the recipe just where that row is a root with no right sibling
     pub included-row : Included Fit rd td ↔ ((1 ≤ w) × (depth rd w ≡ 0) × (rightSibling rd w ≡ 0))

@@ -6,6 +6,7 @@ pub mod Best
 pub mod CornerLaws
 pub mod CornerRow
 pub mod CornerWords
+pub mod Computed
 pub mod Cut
 pub mod EarliestClose
 pub mod Family

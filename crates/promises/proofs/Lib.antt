@@ -1,0 +1,2 @@
+-- The promises, proved from the contracts below.
+pub mod Examples
