@@ -16,7 +16,7 @@ use Rattle.matching.specs.Family.{descent, leftLeaf}
 
 -- the descent from index i on: a row of depth d goes on, any other ends it, and so does the table's end
 module _ (ds : List ℕ) (d i : ℕ) where
-  descent-on : i < length ds → getD ds i 0 ≡ d → descent d (drop i ds) ≡ suc (descent (suc d) (drop (suc i) ds))
+  pub descent-on : i < length ds → getD ds i 0 ≡ d → descent d (drop i ds) ≡ suc (descent (suc d) (drop (suc i) ds))
   descent-on h e = rw (drop-cons ds i 0 h, eq-eqb (getD ds i 0) d e, descent)
 
   descent-off : (getD ds i 0 ≡ d → ⊥) → descent d (drop i ds) ≡ 0

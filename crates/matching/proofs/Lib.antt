@@ -25,6 +25,7 @@ pub mod Passes
 pub mod PlaceRows
 pub mod Placing
 pub mod Refusals
+pub mod Scan
 pub mod Search
 pub mod Siblings
 pub mod Sides

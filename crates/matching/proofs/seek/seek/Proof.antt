@@ -1,129 +1,69 @@
--- `matching::seek::seek` meets its contract: the row found is the first to close that holds the recipe row. Assumes nothing.
-use mathlib.Core.Path.{_≡_, refl, sym, ap, _∙_}
-use Prim.Native.Nat.{suc, _+_, _-_, _≤_}
+-- `matching::seek::seek` meets its contract: a leaf of the recipe is sought by its label, any other row by the corners. Assumes nothing.
+use mathlib.Core.Path.{_≡_, sym, subst, _∙_}
+use Prim.Native.Nat.{ℕ, suc}
 use native.Mathlib.Omega.{arith}
-use lib.ListN.{length, length-set}
-use Rattle.rows.specs.Rows.{depth}
+use lib.ListN.{length}
+use Rattle.rows.specs.Rows.{at}
 use Rattle.rows.specs.Embedding.{SameLabel}
-use Rattle.rows.specs.Forest.{size, forestAt}
-use Rattle.rows.proofs.Windows.{at-step, window-at}
-use Rattle.matching.specs.Asked.{Asked, chain}
-use Rattle.matching.specs.Placing.{HeldIn}
-use Rattle.matching.specs.Room.{recipeOf, roomWords}
-use Rattle.matching.proofs.Alone.{alone-chain, alone-asked}
-use Rattle.matching.proofs.Held.{stands-ends}
-use Rattle.matching.proofs.Passes.{none-more, found-more}
-use Rattle.matching.proofs.Written.{room-levels}
+use Rattle.rows.proofs.AtLaws.{at-row}
+use Rattle.matching.specs.Family.{leftLeaf}
+use Rattle.matching.specs.Placing.{FirstIn}
+use Rattle.matching.specs.Room.{recipeOf}
+use Rattle.matching.proofs.Scan.{leaf-held, first-fit}
+use Rattle.matching.proofs.Width.{length-words}
 use borrow.Author.Needs.{needs}
 use Rattle.matching.proofs.seek.seek.Statement.{statement}
 use Rattle.matching.proofs.seek.seek.Tie as tie
 
-abbrev Inv-loop : tie.InvT-loop
-Inv-loop depths names shape labels asked₀ room₀ v from at₀ asked room at =
-    (from ≤ at) × Asked (length (recipeOf shape labels)) asked 1 × (chain asked 0 ≡ v) × (length room ≡ roomWords)
-    × (HeldIn (SameLabel labels names) (recipeOf shape labels) depths v (suc from) at → ⊥)
+-- the row is a leaf
+leaf : (c : tie.Then1) → let a = c .before .before .before .before .before .args in leftLeaf (recipeOf (a .shape .now) (a .labels .now)) (a .v) ≡ a .v
+leaf c =
+    let start = c .before .before .before .before .before in
+    sym (start .pre .0 .0 .shape .leaves (start .args .v) (start .pre .0 .1 .1)) ∙ sym (c .before .leaf-of .ensures) ∙ c .if1 .taken
 
-abbrev μ-loop : tie.MeasureT-loop
-μ-loop depths names shape labels asked₀ room₀ v from at₀ asked room at = length depths - at
+leaf-of-requires : tie.Need-leaf-of-requires
+leaf-of-requires c κs = let start = c .before .before .before in omega (arith, start .pre .0 .1, start .pre .0 .0 .shape .few)
 
-element-write-asked : tie.Need-element-write-asked Inv-loop μ-loop
-element-write-asked c = search needs
+sub-seek-label : tie.Need-sub-seek-label
+sub-seek-label c = c .before .before .before .before .before .pre .0 .1 .0
 
-add-asked : tie.Need-add-asked Inv-loop μ-loop
-add-asked c = search needs
+mul-seek-label : tie.Need-mul-seek-label
+mul-seek-label c = search needs
 
-mul-asked : tie.Need-mul-asked Inv-loop μ-loop
-mul-asked c = let start = c .before .before .before in omega (arith, start .pre .0 .1, start .pre .0 .0 .shape .few)
+shared-slice-read-seek-label : tie.Need-shared-slice-read-seek-label
+shared-slice-read-seek-label c = let start = c .before .before .before .before .before .before in omega (arith, start .pre .0 .1, length-words (start .args .shape .now) 1 (length (start .args .labels .now)))
 
-element-write-asked-2 : tie.Need-element-write-asked-2 Inv-loop μ-loop
-element-write-asked-2 c =
-    let start = c .before .before .before in
-    omega (arith, start .pre .0 .1, start .pre .0 .0 .shape .few, start .pre .1 .1 .0, length-set (start .args .asked .now) 0 (start .args .v))
-
-loop-holds : tie.Need-loop-holds Inv-loop μ-loop
-loop-holds c =
-    let start = c .before .before .before in
+seek-label-requires : tie.Need-seek-label-requires
+seek-label-requires c κs =
+    let start = c .before .before .before .before .before .before in
     let a = start .args in
-    let high : a .v ≤ 256 = omega (arith, start .pre .0 .1, start .pre .0 .0 .shape .few) in (
-      omega arith,
-      alone-asked (a .asked .now) (a .v) (start .pre .1 .1 .0) high _ (start .pre .0 .1 .0) (start .pre .0 .1 .1),
-      alone-chain (a .asked .now) (a .v) (start .pre .1 .1 .0) high,
-      start .pre .1 .1 .1,
-      λ i. omega (arith, i .1, i .2),
-    )
-
-forest-corners-requires : tie.Need-forest-corners-requires Inv-loop μ-loop
-forest-corners-requires c κs =
-    let turn = c .before .before .before in
-    let start = turn .before .before .before .before in
-    let i = turn .loop .inv in (
-      (start .pre .0 .0, omega (arith, c .before .before .loop-test .taken), (omega arith, λ o. sym (i .2))),
-      record { chains = i .1; words = i .3; room = omega (arith, room-levels 1 (64 - depth (start .args .depths .now) (suc (turn .loop .at))) 64 (omega arith)) },
-    )
-
-enum-known-pass : tie.Need-enum-known-pass Inv-loop μ-loop
-enum-known-pass c = search needs
-
-returns : tie.Need-returns Inv-loop μ-loop
-returns c =
-    let turn = c .before .before .before .before .before .before .before in
-    let start = turn .before .before .before .before in
-    let a = start .args in
-    let i = turn .loop .inv in
-    let at = turn .loop .at in
-    let h = c .before .before .before .before .before .before .loop-test .taken in
-    let p = rw (c .before .pass .given .1) at (c .before .before .before .forest-corners .ensures) in
-    let w = window-at (a .depths .now) (start .pre .0 .0 .listing .outline) at (depth (a .depths .now) (suc at)) (omega arith) (λ l. omega arith) in
-    let t = c .before .pass .given .0 .0 in
-    (found-more (a .shape .now) (a .labels .now) (a .depths .now) (a .names .now) (start .pre .0 .0) (a .v) (start .pre .0 .1) (a .from) at _ (i .0) (i .4) t (length (a .depths .now)) (w .fits) (omega arith) (stands-ends (a .depths .now) at (forestAt (a .depths .now) at (depth (a .depths .now) (suc at))) (w .stands) t (omega (arith, p .1 .low, p .1 .high))) (p .1), (p .2, p .3))
-
-enum-known-pass-2 : tie.Need-enum-known-pass-2 Inv-loop μ-loop
-enum-known-pass-2 c = search needs
-
-loop-less : tie.Need-loop-less Inv-loop μ-loop
-loop-less c =
-    let turn = c .before .before .before .before .before .before .before in
-    let start = turn .before .before .before .before in
-    let a = start .args in
-    let p = rw (c .before .pass2 .given .1) at (c .before .before .before .forest-corners .ensures) in
-    omega (arith, p .0, c .before .before .before .before .before .before .loop-test .taken, ap size (at-step (a .depths .now) (turn .loop .at) _ (c .before .before .before .before .before .before .loop-test .taken) refl))
-
-loop-again : tie.Need-loop-again Inv-loop μ-loop
-loop-again c =
-    let turn = c .before .before .before .before .before .before .before in
-    let start = turn .before .before .before .before in
-    let a = start .args in
-    let i = turn .loop .inv in
-    let p = rw (c .before .pass2 .given .1) at (c .before .before .before .forest-corners .ensures) in (
-      omega (arith, i .0, p .0),
-      p .1 .chains,
-      p .1 .keep 0 (omega arith) ∙ i .2,
-      p .1 .words,
-      rw (p .0) (none-more (a .shape .now) (a .labels .now) (a .depths .now) (a .names .now) (start .pre .0 .0) (a .v) (start .pre .0 .1) (a .from) (turn .loop .at) _ (i .0) (i .4) (p .2 (start .pre .0 .1 .0))),
-    )
-
-returns-2 : tie.Need-returns-2 Inv-loop μ-loop
-returns-2 c =
-    let turn = c .before in
-    let start = turn .before .before .before .before in
+    let k = start .pre .0 .0 in
     let h = start .pre .1 .0 in
-    absurd (turn .loop .inv .4 (h .0, h .1, omega (arith, h .2), h .3))
+    let f = leaf-held (SameLabel (a .labels .now) (a .names .now)) _ (a .depths .now) (k .outline) (k .listing .outline) (a .v) (start .pre .0 .1) (leaf (c .before)) (h .0) (omega (arith, h .1, h .2)) .0 (h .3) in
+    ((k .listing .outline, k .names), (h .0, h .1, h .2, sym (at-row (a .labels .now) (a .v) (start .pre .0 .1 .0)) ∙ f))
+
+returns : tie.Need-returns
+returns c =
+    let start = c .before .before .before .before .before .before .before in
+    let a = start .args in
+    let k = start .pre .0 .0 in
+    (first-fit (SameLabel (a .labels .now) (a .names .now)) _ (a .depths .now) (k .outline) (k .listing .outline) (a .v) (start .pre .0 .1) (leaf (c .before .before)) (suc (a .from)) (c .seek-label .result) (omega arith) (subst (λ (x : ℕ). FirstIn (a .depths .now) (λ t. x ≡ at (a .names .now) t) (suc (a .from)) (length (a .depths .now)) (c .seek-label .result)) (sym (at-row (a .labels .now) (a .v) (start .pre .0 .1 .0))) (c .seek-label .ensures)), start .pre .1 .1)
+
+seek-tree-requires : tie.Need-seek-tree-requires
+seek-tree-requires c κs = search needs
+
+returns-2 : tie.Need-returns-2
+returns-2 c = search needs
 
 pub seek-spec : {M : Type 1} → statement M
 seek-spec =
     tie.close
     (tie.spec
-    Inv-loop
-    μ-loop
-    element-write-asked
-    add-asked
-    mul-asked
-    element-write-asked-2
-    loop-holds
-    forest-corners-requires
-    enum-known-pass
+    leaf-of-requires
+    sub-seek-label
+    mul-seek-label
+    shared-slice-read-seek-label
+    seek-label-requires
     returns
-    enum-known-pass-2
-    loop-less
-    loop-again
+    seek-tree-requires
     returns-2)

@@ -1,0 +1,143 @@
+-- The first row to close with a label, found by one scan: the first row that has it, then the first below that one, and so on. Assumes nothing.
+use mathlib.Core.Path.{_≡_, refl, sym, ap, _∙_}
+use mathlib.Core.Bool.{Bool, true, false, true≢false}
+use mathlib.Core.List.{List}
+use mathlib.Core.Logic.{_↔_}
+use Prim.Native.Nat.{ℕ, zero, suc, _+_, _≤_, _<_}
+use native.Mathlib.Omega.{arith}
+use native.Mathlib.Decide.{decLe}
+use lib.Dec.{eqb}
+use lib.ListN.{length}
+use borrow.Author.Tests.{eqb-true, eq-eqb}
+use Rattle.rows.specs.Rows.{at, Row, Outline, depth, lastRow, closing}
+use Rattle.rows.specs.Forest.{nil, below}
+use Rattle.rows.specs.Embedding.{LiesIn, done}
+use Rattle.rows.proofs.Depths.{last-fits, inside-deeper, after-shallow}
+use Rattle.rows.proofs.Order.{Compared, less, same, more, compared, window, behind-window}
+use Rattle.rows.proofs.Windows.{at-end}
+use Rattle.matching.specs.Family.{leftLeaf}
+use Rattle.matching.specs.EarliestClose.{Holds}
+use Rattle.matching.specs.Placing.{FirstIn, latest}
+use Rattle.matching.proofs.Holds.{holds-iff}
+use Rattle.matching.proofs.LeftLeaf.{descent-on}
+
+-- of the rows behind `from` rows, up to row r, the scan has come upon row h last, or upon none (0): h has the label, the rows after it
+-- are below it and have not, and those before it that have close later
+pub data Scanned (ds : List ℕ) (P : ℕ → Type 0) (from r : ℕ) : ℕ → Type 0 where
+  none : ((y : ℕ) → from < y → y ≤ r → P y → ⊥) → Scanned ds P from r 0
+  upon : (h : ℕ) → from < h → h ≤ r → r ≤ lastRow ds h → P h → ((y : ℕ) → h < y → y ≤ r → P y → ⊥)
+      → ((y : ℕ) → from < y → y < h → P y → closing ds h ≤ closing ds y) → Scanned ds P from r h
+
+module _ (ds : List ℕ) (k : Outline ds) (P : ℕ → Type 0) (from : ℕ) where
+  pub scanned-none : Scanned ds P from from 0
+  scanned-none = none (λ y a b p. omega arith)
+
+  -- the next row has the label, or has it not; it is below the row that the scan came upon
+  module _ (r : ℕ) (low : from ≤ r) (l : r < length ds) where
+    below-last : (h : ℕ) → from < h → h ≤ r → r ≤ lastRow ds h → depth ds h < depth ds (suc r) → suc r ≤ lastRow ds h
+    below-last h a b c d = go (decLe (suc r) (lastRow ds h))
+      where
+        go : Dec (suc r ≤ lastRow ds h) → suc r ≤ lastRow ds h
+        go (yes i) = i
+        go (no i) = let e : lastRow ds h ≡ r = omega arith in absurd (omega (arith, rw e at (after-shallow ds h (omega arith))))
+
+    pub scanned-hit : (h : ℕ) → (1 ≤ h → depth ds h < depth ds (suc r)) → Scanned ds P from r h → P (suc r) → Scanned ds P from (suc r) (suc r)
+    scanned-hit _ d (none n) p = upon (suc r) (omega arith) (omega arith) (omega arith) p (λ y a b q. omega arith) (λ y a b q. absurd (n y a (omega arith) q))
+    scanned-hit _ d (upon h a b c q clean first) p =
+        let i = below-last h a b c (d (omega arith)) in
+        let s = ((window ds k h (suc r) (omega arith) (omega arith)) .1 (omega arith, i)) .2 in
+        upon (suc r) (omega arith) (omega arith) (omega arith) p (λ y u v w. omega arith) (λ y u v w. go s y u v w (compared y h))
+      where
+        go : closing ds (suc r) < closing ds h → (y : ℕ) → from < y → y < suc r → P y → Compared y h → closing ds (suc r) ≤ closing ds y
+        go s y u v w (less o) = omega (arith, first y u o w)
+        go s y u v w (same o) = omega (arith, ap (closing ds) o)
+        go s y u v w (more o) = absurd (clean y o (omega arith) w)
+
+    pub scanned-miss : (h : ℕ) → (1 ≤ h → depth ds h < depth ds (suc r)) → Scanned ds P from r h → (P (suc r) → ⊥) → Scanned ds P from (suc r) h
+    scanned-miss _ d (none n) m = none (λ y a b q. go y a b q (decLe y r))
+      where
+        go : (y : ℕ) → from < y → y ≤ suc r → P y → Dec (y ≤ r) → ⊥
+        go y a b q (yes i) = n y a i q
+        go y a b q (no i) = let e : y ≡ suc r = omega arith in m (rw e at q)
+    scanned-miss _ d (upon h a b c q clean first) m =
+        upon h a (omega arith) (below-last h a b c (d (omega arith))) q (λ y u v w. go y u v w (decLe y r)) first
+      where
+        go : (y : ℕ) → h < y → y ≤ suc r → P y → Dec (y ≤ r) → ⊥
+        go y u v w (yes i) = clean y u i w
+        go y u v w (no i) = let e : y ≡ suc r = omega arith in m (rw e at w)
+
+  pub scanned-fits : (r h : ℕ) → Scanned ds P from r h → h ≤ r
+  scanned-fits r _ (none n) = omega arith
+  scanned-fits r _ (upon h a b c q clean first) = b
+
+  -- no row is left below the row that the scan came upon: that is the first to close
+  pub scanned-end : (r h : ℕ) → r ≤ length ds → (r < length ds → (1 ≤ h) × (depth ds (suc r) ≤ depth ds h)) → Scanned ds P from r h
+      → (y : ℕ) → from < y → y ≤ length ds → P y → FirstIn ds P (suc from) (length ds) h
+  scanned-end r _ low e (none n) y a b p = absurd (go (decLe y r))
+    where
+      go : Dec (y ≤ r) → ⊥
+      go (yes i) = n y a i p
+      go (no i) = omega (arith, e (omega arith) .0)
+  scanned-end r _ low e (upon h a b c q clean first) y′ a′ b′ p′ =
+      record { low = a; high = omega arith; holds = q; first = λ y u v w. go y u v w (compared y h) (decLe y r) }
+    where
+      row : Row ds h
+      row = omega arith
+
+      ends : lastRow ds h ≤ r
+      ends = at-last (decLe (suc r) (lastRow ds h))
+        where
+          at-last : Dec (suc r ≤ lastRow ds h) → lastRow ds h ≤ r
+          at-last (yes i) = let f = last-fits ds h row in absurd (omega (arith, inside-deeper ds h (suc r) (omega arith) (omega arith) i, e (omega arith) .1))
+          at-last (no i) = omega arith
+
+      go : (y : ℕ) → suc from ≤ y → y ≤ length ds → P y → Compared y h → Dec (y ≤ r) → closing ds h ≤ closing ds y
+      go y u v w (less o) d = first y u o w
+      go y u v w (same o) d = omega (arith, ap (closing ds) o)
+      go y u v w (more o) (yes i) = absurd (clean y o i w)
+      go y u v w (more o) (no i) = omega (arith, ((behind-window ds k h y row (omega arith)) .1 (omega (arith, ends))) .2)
+
+-- one more row is scanned for a label
+pub scanned-latest : (ds ls : List ℕ) (k : Outline ds) (name from r : ℕ) → from ≤ r → r < length ds → (h : ℕ) → ((1 ≤ h) × (depth ds (suc r) ≤ depth ds h) → ⊥)
+    → Scanned ds (λ t. name ≡ at ls t) from r h → Scanned ds (λ t. name ≡ at ls t) from (suc r) (latest (eqb name (at ls (suc r))) r h)
+scanned-latest ds ls k name from r low l h past s = go (eqb name (at ls (suc r))) refl
+  where
+    deeper : 1 ≤ h → depth ds h < depth ds (suc r)
+    deeper o = less-or (decLe (depth ds (suc r)) (depth ds h))
+      where
+        less-or : Dec (depth ds (suc r) ≤ depth ds h) → depth ds h < depth ds (suc r)
+        less-or (yes i) = absurd (past (o, i))
+        less-or (no i) = omega arith
+
+    go : (b : Bool) → eqb name (at ls (suc r)) ≡ b → Scanned ds (λ t. name ≡ at ls t) from (suc r) (latest b r h)
+    go true e = scanned-hit ds k (λ t. name ≡ at ls t) from r low l h deeper s (eqb-true name (at ls (suc r)) e)
+    go false e = scanned-miss ds k (λ t. name ≡ at ls t) from r low l h deeper s (λ p. true≢false (sym (eq-eqb name (at ls (suc r)) p) ∙ e))
+
+-- a recipe row with no row below it is held by the rows that fit it
+module _ (Fit : ℕ → ℕ → Type 0) (rd td : List ℕ) (kr : Outline rd) (kt : Outline td) (v : ℕ) (r : Row rd v) (leaf : leftLeaf rd v ≡ v) where
+  below-none : below rd v ≡ nil
+  below-none = go v r leaf
+    where
+      go : (v : ℕ) → Row rd v → leftLeaf rd v ≡ v → below rd v ≡ nil
+      go zero r e = absurd (omega arith)
+      go (suc i) r e = at-end rd (suc i) (suc (depth rd (suc i))) (λ l. flat l (decLe (depth rd (suc (suc i))) (depth rd (suc i))))
+        where
+          flat : suc i < length rd → Dec (depth rd (suc (suc i)) ≤ depth rd (suc i)) → depth rd (suc (suc i)) < suc (depth rd (suc i))
+          flat l (yes o) = omega arith
+          flat l (no o) =
+              let d : depth rd (suc (suc i)) ≡ suc (depth rd (suc i)) = omega (arith, kr .step (suc i) (omega arith) (omega arith)) in
+              absurd (omega (arith, descent-on rd (suc (depth rd (suc i))) (suc i) l d))
+
+  pub leaf-held : (t : ℕ) → Row td t → Holds Fit rd td v t ↔ Fit v t
+  leaf-held t s =
+      let i = holds-iff Fit rd td kr kt v t r s in
+      (λ h. i .0 h .0, λ f. i .1 (f, rw below-none done))
+
+  pub first-fit : (lo t : ℕ) → 1 ≤ lo → FirstIn td (Fit v) lo (length td) t → FirstIn td (Holds Fit rd td v) lo (length td) t
+  first-fit lo t one f =
+      record {
+        low = f .low;
+        high = f .high;
+        holds = leaf-held t (omega (arith, f .low, f .high)) .1 (f .holds);
+        first = λ y a b h. f .first y a b (leaf-held y (omega arith) .0 h);
+      }
