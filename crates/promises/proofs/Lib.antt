@@ -1,0 +1,8 @@
+-- The proofs of the demands.
+pub mod ByTable
+pub mod TableRows
+pub mod ReadRows
+pub mod DemandOne
+pub mod DemandTwo
+pub mod DemandThree
+pub mod OneOutcome
