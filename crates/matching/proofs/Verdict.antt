@@ -24,12 +24,9 @@ module _ (rd rl td tl m : List ℕ) (c : Corner) (n : List ℕ) where
   good : includeCheck rd rl td tl m ≡ Fine → GoodTables rd rl td tl
   good e = (tables-fine rd rl td tl) .0 (fine-tables rd rl td tl m e)
 
-  -- a yes and a no are about good tables
+  -- a yes is about good tables
   pub yes-good : Answers rd rl td tl m (answer.Included c) n → GoodTables rd rl td tl
   yes-good a = good (a .0)
-
-  pub no-good : Answers rd rl td tl m (answer.Absent c) n → GoodTables rd rl td tl
-  no-good a = good (a .0)
 
   -- the map that a yes writes in front of the map slice is an embedding
   pub yes-embeds : (a : Answers rd rl td tl m (answer.Included c) n) → Embedding (SameLabel rl tl) rd td (a .3 .0)

@@ -3,11 +3,11 @@ use mathlib.Core.Path.{_≡_, refl, sym, ap, subst, _∙_}
 use mathlib.Core.Bool.{Bool, true, false}
 use mathlib.Core.Logic.{inl, inr}
 use mathlib.Core.List.{List, [], _∷_, _++_}
-use Prim.Native.Nat.{ℕ, _+_, _*_, _≤_, _<_}
+use Prim.Native.Nat.{ℕ, _+_, _*_, _^_, _≤_, _<_}
 use native.Mathlib.Omega.{arith}
 use native.Mathlib.Decide.{ℕ-discrete, decLe}
 use lib.Dec.{ltb}
-use lib.ListN.{length, drop, length-replicate}
+use lib.ListN.{length, take, drop, length-replicate}
 use borrow.Author.Tests.{ltb-true, ltb-false, le-leb, lt-leb, eq-eqb, ne-eqb, lt-ltb, le-ltb}
 use Rattle.rows.specs.Limits.{recipeRows, listingRows}
 use Rattle.matching.specs.Refusals.{tablesCheck}
@@ -20,7 +20,7 @@ use Rattle.matching.specs.declared.Judgement.the-variants as judged
 use Rattle.matching.proofs.Refusals.{told, told-if, told-first}
 use Rattle.parcels.specs.Numbers.{number}
 use Rattle.parcels.specs.Refusals.{numberOf, placeOf}
-use Rattle.parcels.specs.Read.{depthsAt, depthsIn, labelsIn, filled, readOf}
+use Rattle.parcels.specs.Read.{depthsAt, depthsIn, labelsIn, filled}
 use Rattle.parcels.specs.Write.{lengthOf, writeOf, writtenBy}
 use Rattle.parcels.specs.Parcel.{parcelOf}
 use Rattle.parcels.specs.declared.Limit.the-variants.{Recipe, Listing}
@@ -37,10 +37,11 @@ use Rattle.journal.specs.Refusals as journal
 use Rattle.journal.specs.Outcome.{Outcome, Meets}
 use Rattle.host.specs.Line.{line, refusedWord}
 use Rattle.host.specs.Outcome.{zeros, recipeRead, listingRead, outcomeOf, RefusedAs, FromTables, FromListing, FromRecipe}
-use Rattle.host.specs.Host.{lineOf, answerBytes, Answered, Entered, Entry}
+use Rattle.host.specs.Host.{lineOf, answerBytes, Answered, Entered}
+use Rattle.host.proofs.Longest.{line-fits}
+use Rattle.host.proofs.LongInput.{line-front}
 use Rattle.promises.specs.Table.{Given, At, TablesRows, ReadRows, IncludeTable, JudgeTable, WriteTable, EntryTable, Fine}
-use Rattle.promises.specs.Calls.{Reads}
-use Rattle.promises.specs.DemandOne.{Seen, answered, refused, ofAnswer, ofJudgement, ofRead, ofWrite, ofCall, ByTable, IsRefused, Shows, AnswerLine, SeenLine, DemandOne}
+use Rattle.promises.specs.DemandOne.{Seen, answered, refused, ofAnswer, ofJudgement, ofRead, ofWrite, ofCall, ByTable, IsRefused, Shows, SeenLine, DemandOne}
 use Rattle.promises.proofs.ByTable.{never, fine, given, passed}
 use Rattle.promises.proofs.TableRows.{seenTable, tables-rows, include-rows, seenVerdict, strike-rows, undo-rows}
 use Rattle.promises.proofs.ReadRows.{seenRead, read-rows}
@@ -214,4 +215,16 @@ demand-one =
       entry-short = λ input before r after e h. rw (lt-ltb (length before) answerBytes h) at (e .by-room);
       entry = λ input before r after e h.
           let a = rw (le-ltb (length before) answerBytes h) at (e .by-room) in at-first input before r after a (recipeRead input) refl (a .line .said .by-reading);
+      entry-fits = λ input before r after size e. at-most input before r after size (ltb (length before) answerBytes) (e .by-room);
+      entry-front = λ input before r after long e. record { by-room = whole input before r after long (ltb (length before) answerBytes) (e .by-room) };
     }
+  where
+    at-most : (input before : List ℕ) (r : ℕ) (after : List ℕ) → length input < 2 ^ 64 → (b : Bool) → Entered b input before r after → r ≤ answerBytes
+    at-most input before r after size true f = omega (arith, f .0)
+    at-most input before r after size false f = omega (arith, f .count, line-fits input size (f .bytes) (f .line))
+
+    whole : (input before : List ℕ) (r : ℕ) (after : List ℕ) → 26153 ≤ length input → (b : Bool) → Entered b (take 26153 input) before r after
+        → Entered b input before r after
+    whole input before r after long true f = f
+    whole input before r after long false f =
+        record { bytes = f .bytes; line = line-front input (f .bytes) long (f .line); count = f .count; stored = f .stored }

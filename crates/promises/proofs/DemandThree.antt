@@ -1,5 +1,6 @@
 -- Demand 3 holds: a series of calls that meet their contracts is a session of `journal`, whose laws say the rest. Assumes nothing.
 use mathlib.Core.Path.{_≡_, refl, sym, ap, ap₂, subst, _∙_}
+use mathlib.Core.Logic.{inl, inr}
 use mathlib.Core.List.{List, [], _∷_}
 use Prim.Native.Nat.{ℕ, _+_, _≤_}
 use native.Mathlib.Omega.{arith}
@@ -9,24 +10,24 @@ use Rattle.rows.specs.Embedding.{SameLabel, Embedding}
 use Rattle.matching.specs.declared.Answer.the-variants as answer
 use Rattle.matching.specs.declared.Corner.{Corner}
 use Rattle.matching.specs.Answer.{Answers}
-use Rattle.matching.proofs.Verdict.{yes-good, no-good, yes-embeds, no-excluded}
+use Rattle.matching.proofs.Verdict.{yes-good, yes-embeds, no-excluded}
 use Rattle.journal.specs.declared.Answer.{Answer}
 use Rattle.journal.specs.declared.Refusal.{Refusal}
 use Rattle.journal.specs.declared.Verdict.{Verdict}
 use Rattle.journal.specs.declared.Verdict.the-variants.{Allowed, Denied}
 use Rattle.journal.specs.Entry.{room}
 use Rattle.journal.specs.Lent.{Lent, usedDepths, usedLabels, struck, undone}
-use Rattle.journal.specs.Refusals.{lentVerdict, strikeVerdict, undoVerdict, answered, settled, Sound}
+use Rattle.journal.specs.Refusals.{lentVerdict, strikeVerdict, undoVerdict, answered, settled, strikeAnswer, afterStrike, undoAnswer, afterUndo, Sound}
 use Rattle.journal.specs.Session.{Call, strikeRow, undoLast, run, accepted, older, standing, strikes, undos, Stands}
 use Rattle.journal.specs.Kept.{thenNamed}
-use Rattle.journal.specs.Outcome.{takenOver}
+use Rattle.journal.specs.Outcome.{Outcome, takenOver}
 use Rattle.journal.proofs.Verdicts.{lent-iff, denied, denied-undo}
 use Rattle.journal.proofs.Outcomes.{strike-taken, undo-taken}
 use Rattle.journal.proofs.Sessions as sessions
 use Rattle.journal.proofs.Images.{left-included}
 use Rattle.journal.proofs.Recipe.{allStruck, leaves-recipe, brings-back}
 use Rattle.promises.specs.Calls.{standingNow, Series, none, strike, undo}
-use Rattle.promises.specs.DemandThree.{Holds, Restored, Outside, DemandThree}
+use Rattle.promises.specs.DemandThree.{Holds, Restored, Outside, OwnUndos, DemandThree}
 use Rattle.promises.proofs.DemandTwo.{front-map}
 
 -- the strikes standing by the answers are those standing by the judgements
@@ -45,6 +46,20 @@ session {s} {t} {st} (undoLast ∷ cs) (undo o m k) =
     let i = session cs k in
     let e = undo-taken s o m in
     (i .0 ∙ ap (run cs) e, i .1 ∙ ap₂ (standing cs) e (by-answer (undoVerdict s) (undone s) (o .answer) (older st) st (m .answer)))
+
+-- any calls make a series
+made : (s : Lent) (st : List ℕ) (cs : List Call) → (t : Lent) × ((su : List ℕ) × Series s st cs t su)
+made s st [] = (s, (st, none))
+made s st (strikeRow r ∷ cs) =
+    let t = afterStrike s r in
+    let o : Outcome = record { answer = strikeAnswer s r; depths = t .depths; labels = t .labels; journal = t .journal } in
+    let i = made (takenOver s o) (standingNow (strikeAnswer s r) (r ∷ st) st) cs in
+    (i .0, (i .1 .0, strike r o (record { answer = refl; depths = refl; labels = refl; journal = refl }) (i .1 .1)))
+made s st (undoLast ∷ cs) =
+    let t = afterUndo s in
+    let o : Outcome = record { answer = undoAnswer s; depths = t .depths; labels = t .labels; journal = t .journal } in
+    let i = made (takenOver s o) (standingNow (undoAnswer s) (older st) st) cs in
+    (i .0, (i .1 .0, undo o (record { answer = refl; depths = refl; labels = refl; journal = refl }) (i .1 .1)))
 
 -- what is not in order is refused
 not-lent : (s : Lent) → (Sound s → ⊥) → (why : Refusal) × (lentVerdict s ≡ Denied why)
@@ -69,8 +84,9 @@ unchanged {s} {t} {st} n (undo o m k) =
     let i = unchanged (λ h. n (subst Sound e h)) k in
     (i .0 ∙ e, i .1 ∙ by-answer (undoVerdict s) (undone s) (o .answer) (older st) st (m .answer) ∙ ap (λ (x : Verdict). accepted x (older st) st) v)
 
-stands : {s t : Lent} {cs : List Call} {su : List ℕ} → Sound s → s .entries ≡ 0 → Series s [] cs t su → Stands s su t
-stands {s} {t} {cs} {su} k z c = let e = session cs c in rw (e .0, e .1) ((sessions.demand-three s k z cs) .0)
+stands : {s t : Lent} (cs : List Call) {su : List ℕ} → Sound s → OwnUndos s cs → Series s [] cs t su → Stands s su t
+stands {s} cs k (inl z) c = let e = session cs c in rw (e .0, e .1) ((sessions.demand-three s k z cs) .0)
+stands {s} cs k (inr o) c = let e = session cs c in rw (e .0, e .1) (sessions.only-strikes s k cs o [] s (sessions.none-stands s k))
 
 -- as many undos, whatever the rows are called
 undos-named : (n : ℕ) (os : List ℕ) → undos os ≡ undos (thenNamed n os)
@@ -100,12 +116,13 @@ pub demand-three : DemandThree
 demand-three =
     record {
       standing = λ s t cs su k z c.
-          let h = stands k z c in (h, (sessions.used-depths s k su t h, sessions.used-labels s k su t h));
+          let h = stands cs k z c in (h, (sessions.used-depths s k su t h, sessions.used-labels s k su t h));
+      goes-on = made;
       refused = λ s t cs st su n c. unchanged n c;
       yes-leaves = λ s t rd rl m n c a k os out free su l. leaves s rd rl m n c a k os out free l;
       yes-restores = λ s t u rd rl m n c a k os out free su sv l d. restores s rd rl m n c a k os out free l d;
-      no-leaves = λ s t rd rl m n c a k z cs su l h.
-          let d = stands k z l in
+      no-leaves = λ s t rd rl m n c a k cs z su l h.
+          let d = stands cs k z l in
           let us = length-take-le (s .rows) (s .depths) (k .fits) in
           let ul = length-take-le (s .rows) (s .labels) (omega (arith, k .fits, k .lengths)) in
           no-excluded rd rl (usedDepths s) (usedLabels s) m c n a

@@ -1,46 +1,34 @@
 -- Demand 2 holds: of the inclusion answer by the laws of `matching`, of parcels by those of `parcels`. Assumes nothing.
 use mathlib.Core.Path.{_≡_, refl, sym, ap, ap₂, _∙_}
-use mathlib.Core.Logic.{_↔_, _⊎_, inl, inr}
+use mathlib.Core.Logic.{inl, inr}
 use mathlib.Core.List.{List}
 use Prim.Native.Nat.{ℕ, _+_, _*_}
 use native.Mathlib.Omega.{arith}
 use lib.ListN.{length, take, drop}
 use lib.Seq.{take-at, drop-at}
-use Rattle.rows.specs.Limits.{recipeRows}
 use Rattle.rows.specs.Embedding.{SameLabel, Embedding, Included}
 use Rattle.matching.specs.declared.Answer.{Answer}
 use Rattle.matching.specs.declared.Answer.the-variants as answer
 use Rattle.matching.specs.declared.Corner.{Corner}
 use Rattle.matching.specs.declared.Refusal.{Refusal}
-use Rattle.matching.specs.declared.Judgement.{Judgement}
-use Rattle.matching.specs.declared.Judgement.the-variants as judged
-use Rattle.matching.specs.Refusals.{GoodTables}
 use Rattle.matching.specs.Answer.{Answers}
-use Rattle.matching.specs.Judge.{Judged}
-use Rattle.matching.specs.Corner.{CornerIs}
-use Rattle.matching.specs.EarliestClose.{EarliestClose}
 use Rattle.matching.proofs.CornerLaws.{corner-one, whole-width}
 use Rattle.matching.proofs.EarliestClose.{earliest-one}
 use Rattle.matching.proofs.Verdict as verdict
-use Rattle.parcels.specs.Table.{Bytes, Table}
-use Rattle.parcels.specs.Numbers.{numbers}
 use Rattle.parcels.specs.Parcel.{parcelOf}
 use Rattle.parcels.specs.Read.{depthsAt, labelsAt, depthsIn, labelsIn}
 use Rattle.parcels.specs.Write.{writtenBy}
 use Rattle.parcels.specs.declared.Limit.{Limit}
-use Rattle.parcels.specs.declared.Limit.the-variants.{Recipe, Listing}
 use Rattle.parcels.specs.declared.ReadAnswer.{ReadAnswer}
-use Rattle.parcels.specs.declared.ReadAnswer.the-variants.{Rows}
 use Rattle.parcels.specs.declared.WriteAnswer.{WriteAnswer}
-use Rattle.parcels.specs.declared.WriteAnswer.the-variants.{Length}
 use Rattle.parcels.proofs.LittleEndian.{numbers-length}
 use Rattle.parcels.proofs.Sections.{parcel-length}
 use Rattle.parcels.proofs.Writing.{wrote, front}
 use Rattle.parcels.proofs.Accepting.{accepted}
 use Rattle.parcels.proofs.ReadsBack.{Gives, reads-back-listing, reads-back-recipe}
 use Rattle.parcels.proofs.OneParcel.{stretch-parcel}
-use Rattle.promises.specs.Calls.{Reads, Writes}
-use Rattle.promises.specs.DemandTwo.{Yes, No, Ordered, Exists, Decides, GivesBack, ReadAs, stretch, DemandTwo}
+use Rattle.promises.specs.Calls.{Reads}
+use Rattle.promises.specs.DemandTwo.{Ordered, Exists, Decides, GivesBack, ReadAs, stretch, DemandTwo}
 
 never : {A : Type 0} → _≡_ {A = ℕ} 0 1 → A
 never z = absurd (omega arith)

@@ -4,7 +4,6 @@ use mathlib.Core.Logic.{_↔_}
 use mathlib.Core.List.{List, [], _∷_}
 use Prim.Native.Nat.{ℕ}
 use contract.Lifetimes.{Lfts}
-use denote.Ref.{now}
 use denote.Triple.Clauses.{AtExit}
 use borrow.Fn.Kinds.{PK, RK, Dens, resT, endedOf, In, Out}
 use Rattle.matching.proofs.AnswerLaws.{answer-one}

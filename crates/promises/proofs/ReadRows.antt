@@ -1,8 +1,8 @@
 -- The reader's checks follow document 01's table: field by field, then the sums, then the room. Assumes nothing.
-use mathlib.Core.Path.{_≡_, refl, sym, ap, subst, _∙_}
-use mathlib.Core.Bool.{Bool, true, false}
+use mathlib.Core.Path.{_≡_, refl, sym, subst}
+use mathlib.Core.Bool.{true}
 use mathlib.Core.List.{List}
-use Prim.Native.Nat.{ℕ, _+_, _*_, _≤_, _<_}
+use Prim.Native.Nat.{ℕ, _+_, _≤_, _<_}
 use native.Mathlib.Omega.{arith}
 use native.Mathlib.Decide.{ℕ-discrete, decLe}
 use lib.ListN.{length, drop}
@@ -14,7 +14,7 @@ use Rattle.parcels.specs.Refusals.{numberOf, placeOf}
 use Rattle.parcels.specs.Read.{mostRows, after, sectionOf, followed, claimOf, sumsAt, labelsIn, depthsIn, sumsAgree, agreedOf, roomOf, readOf}
 use Rattle.parcels.specs.declared.Limit.{Limit}
 use Rattle.parcels.specs.declared.Refusal.{Refusal}
-use Rattle.parcels.specs.declared.Refusal.the-variants.{Ended, SecondCount, ThirdCount, SumDiffers, FirstCount, RowsTooShort}
+use Rattle.parcels.specs.declared.Refusal.the-variants.{Ended, SecondCount, ThirdCount, FirstCount}
 use Rattle.parcels.specs.declared.ReadAnswer.{ReadAnswer}
 use Rattle.parcels.specs.declared.ReadAnswer.the-variants.{Rows, Refused}
 use Rattle.parcels.proofs.Judging.{cut-count, counted-low, counted-high, cut-fields, found-whole, first-differs, second-differs, both-agree}

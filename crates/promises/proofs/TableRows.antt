@@ -1,17 +1,16 @@
 -- Each call's checks follow document 01's table: of the two tables, of a parcel read and written, and of what strike and undo are lent. Assumes nothing.
-use mathlib.Core.Path.{_≡_, refl, sym, ap, subst, _∙_}
+use mathlib.Core.Path.{_≡_, refl, sym, _∙_}
 use mathlib.Core.Bool.{Bool, true, false, not}
 use mathlib.Core.Logic.{_↔_}
 use mathlib.Core.List.{List}
-use Prim.Native.Nat.{ℕ, _+_, _*_, _%_, _≤_, _<_}
+use Prim.Native.Nat.{ℕ, _%_, _<_}
 use native.Mathlib.Omega.{arith}
-use native.Mathlib.Decide.{ℕ-discrete, decLe}
 use lib.Dec.{eqb, leb, ltb}
-use lib.ListN.{length, drop}
+use lib.ListN.{length}
 use lib.Seq.{length-take-le}
-use borrow.Author.Tests.{ltb-true, ltb-false, leb-true, leb-false, eqb-true, eqb-false, not-true, not-false, le-leb, lt-leb}
+use borrow.Author.Tests.{ltb-true, ltb-false, leb-true, leb-false, eqb-true, eqb-false, not-true, not-false}
 use Rattle.rows.specs.Limits.{recipeRows, listingRows}
-use Rattle.rows.specs.FirstBad.{firstBad, BadStepAt, TooDeepAt}
+use Rattle.rows.specs.FirstBad.{BadStepAt, TooDeepAt}
 use Rattle.rows.specs.declared.RowCheck.{RowCheck}
 use Rattle.rows.specs.declared.RowCheck.the-variants as found
 use Rattle.rows.proofs.FirstBad.{fine-iff}

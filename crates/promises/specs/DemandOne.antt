@@ -5,8 +5,8 @@
 use mathlib.Core.Path.{_≡_}
 use mathlib.Core.Logic.{_↔_, _⊎_}
 use mathlib.Core.List.{List, [], _∷_, _++_}
-use Prim.Native.Nat.{ℕ, _+_, _*_, _≤_, _<_}
-use lib.ListN.{length, drop}
+use Prim.Native.Nat.{ℕ, _+_, _*_, _^_, _≤_, _<_}
+use lib.ListN.{length, take, drop}
 use Rattle.rows.specs.Limits.{recipeRows}
 use Rattle.matching.specs.Refusals.{refusalNumber, refusalPlace}
 use Rattle.matching.specs.Answer.{Answers}
@@ -115,3 +115,8 @@ pub record DemandOne : Type 0 where
   pub entry : (input before : List ℕ) (r : ℕ) (after : List ℕ) → Entry input before r after → answerBytes ≤ length before
       → (seen : Seen) × ByTable (EntryTable input) seen
       × SeenLine seen input (number 4 input) (number 4 (drop (20 + 6 * number 4 input) input)) before r after
+  -- a line has at most 1,295 bytes, so it fits every buffer that is long enough
+  pub entry-fits : (input before : List ℕ) (r : ℕ) (after : List ℕ) → length input < 2 ^ 64 → Entry input before r after → r ≤ answerBytes
+  -- no byte behind the first 26,153 changes the outcome: the program reads no more
+  pub entry-front : (input before : List ℕ) (r : ℕ) (after : List ℕ) → 26153 ≤ length input → Entry (take 26153 input) before r after
+      → Entry input before r after

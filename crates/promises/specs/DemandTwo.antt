@@ -9,7 +9,7 @@ use lib.Dec.{eqb}
 use lib.ListN.{length, take, drop}
 use Rattle.rows.specs.Limits.{recipeRows}
 use Rattle.rows.specs.Rows.{at, Row, depth, Ancestor, LeftOf, tally}
-use Rattle.rows.specs.Embedding.{SameLabel, Embedding, Included}
+use Rattle.rows.specs.Embedding.{SameLabel}
 use Rattle.matching.specs.declared.Answer.{Answer}
 use Rattle.matching.specs.declared.Answer.the-variants as answer
 use Rattle.matching.specs.declared.Corner.{Corner}
