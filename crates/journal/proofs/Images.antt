@@ -3,7 +3,7 @@
 use mathlib.Core.Path.{_≡_, refl, sym, ap, ap₂, subst, _∙_}
 use mathlib.Core.Bool.{Bool, true, false, _&&_, not}
 use mathlib.Core.List.{List, [], _∷_, map}
-use Prim.Native.Nat.{ℕ, suc, _+_, _-_, _≤_, _<_}
+use Prim.Native.Nat.{ℕ, zero, suc, _+_, _-_, _≤_, _<_}
 use native.Mathlib.Omega.{arith}
 use lib.ListN.{length, getD}
 use lib.Seq.{ext-getD}
@@ -190,3 +190,20 @@ labels-left rd rl td tl m od ot a b e os d outside =
     labelled [] (y ∷ ys) n h = absurd (omega arith)
     labelled (x ∷ xs) [] n h = absurd (omega arith)
     labelled (x ∷ xs) (y ∷ ys) n h = ap₂ _∷_ (sym (h 0 (omega arith))) (labelled xs ys (omega arith) (λ i o. h (suc i) (omega arith)))
+
+-- a listing of whose rows strikes leave a recipe includes it
+pub left-included : (rd rl td tl st : List ℕ) → Outline td → length tl ≡ length td → Named (length td) st → replay td st ≡ rd → left tl st ≡ rl
+    → Included (SameLabel rl tl) rd td
+left-included rd rl td tl st ot n v e f = rw (sym e, sym f) (rowsLeft (length td) st, strikes-embed td ot st v (SameLabel (left tl st) tl) fits)
+  where
+    mapped : (ws : List ℕ) (i : ℕ) → i < length ws → getD (map (λ t. getD tl (t - 1) 0) ws) i 0 ≡ getD tl (getD ws i 0 - 1) 0
+    mapped [] i h = absurd (omega arith)
+    mapped (w ∷ ws) zero h = refl
+    mapped (w ∷ ws) (suc i) h = mapped ws i (omega arith)
+
+    fits : (u : ℕ) → Row (replay td st) u → SameLabel (left tl st) tl u (at (rowsLeft (length td) st) u)
+    fits zero r = absurd (omega arith)
+    fits (suc i) r =
+        ap (λ (l : List ℕ). getD l i 0) (left-carried 0 tl st ∙ ap (λ (x : ℕ). map (λ t. getD tl (t - 1) 0) (rowsLeft x st)) n)
+        ∙ mapped (rowsLeft (length td) st) i (omega (arith, same-count td ot st v))
+        ∙ sym (at-row tl (getD (rowsLeft (length td) st) i 0) ((own-embeds td ot st v .lands (suc i) r) .0))

@@ -12,7 +12,7 @@ use Rattle.journal.specs.Strike.{strikeDepths, without, undoDepths, putB
 use Rattle.journal.specs.Entry.{Entry, entryOf, entryWords, words, noWords, room, written, mayReturn}
 use Rattle.journal.specs.Lent.{Lent, lent, usedDepths, usedLabels, newest, struck, undone}
 use Rattle.journal.specs.Refusals.{strikeVerdict, undoVerdict, settled, afterStrike, afterUndo, Sound, Strikable, Returnable}
-use Rattle.journal.specs.Session.{Call, strikeRow, undoLast, run, accepted, older, standing, replay, left, entriesOf, Named, Stands, undos, strikes}
+use Rattle.journal.specs.Session.{Call, strikeRow, undoLast, run, accepted, older, standing, replay, left, entriesOf, Named, Stands, OnlyStrikes, undos, strikes}
 use Rattle.journal.proofs.Strikes.{length-left, length-replay, there, well-replay}
 use Rattle.journal.proofs.Returns.{undo-strike, put-without, undoable-iff}
 use Rattle.journal.proofs.Verdicts.{strike-iff, undo-iff}
@@ -228,14 +228,15 @@ module _ (s : Lent) (k : Sound s) where
         words = refl;
       }
 
+  strike-next : (r : ℕ) (st : List ℕ) (t : Lent) → Stands s st t → (v : Verdict) → strikeVerdict t r ≡ v
+      → Stands s (accepted v (r ∷ st) st) (settled v (struck t r) t)
+  strike-next r st t h Allowed e = strike-stands st t h r ((strike-iff t r) .0 e)
+  strike-next r st t h (Denied why) e = h
+
   -- any calls go on from what strikes have made
   session : s .entries ≡ 0 → (cs : List Call) (st : List ℕ) (t : Lent) → Stands s st t → Stands s (standing cs t st) (run cs t)
   session z [] st t h = h
-  session z (strikeRow r ∷ cs) st t h = session z cs _ _ (go (strikeVerdict t r) refl)
-    where
-      go : (v : Verdict) → strikeVerdict t r ≡ v → Stands s (accepted v (r ∷ st) st) (settled v (struck t r) t)
-      go Allowed e = strike-stands st t h r ((strike-iff t r) .0 e)
-      go (Denied why) e = h
+  session z (strikeRow r ∷ cs) st t h = session z cs _ _ (strike-next r st t h (strikeVerdict t r) refl)
   session z (undoLast ∷ cs) st t h = session z cs _ _ (go st h (undoVerdict t) refl)
     where
       go : (st : List ℕ) → Stands s st t → (v : Verdict) → undoVerdict t ≡ v → Stands s (accepted v (older st) st) (settled v (undone t) t)
@@ -256,6 +257,12 @@ module _ (s : Lent) (k : Sound s) where
         ap (λ (x : ℕ). take x (run cs s .journal)) e ∙ h .journal ∙ ap
             (λ (x : ℕ). take x (s .journal) ++ entriesOf (usedDepths s) (usedLabels s) (standing cs s [])) o,
       )
+
+  -- strikes alone, whatever stands in the journal before them
+  pub only-strikes : (cs : List Call) → OnlyStrikes cs → (st : List ℕ) (t : Lent) → Stands s st t → Stands s (standing cs t st) (run cs t)
+  only-strikes [] o st t h = h
+  only-strikes (strikeRow r ∷ cs) o st t h = only-strikes cs o _ _ (strike-next r st t h (strikeVerdict t r) refl)
+  only-strikes (undoLast ∷ cs) o st t h = absurd o
 
   -- undoing them all brings the first table back
   pub undo-all : (st : List ℕ) (t : Lent) → Stands s st t → Stands s [] (run (undos st) t)

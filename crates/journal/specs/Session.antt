@@ -70,6 +70,12 @@ pub record Stands (s : Lent) (st : List ℕ) (t : Lent) : Type 0 where
   pub journal : take (t .entries * entryWords) (t .journal) ≡ take (s .entries * entryWords) (s .journal) ++ entriesOf (usedDepths s) (usedLabels s) st
   pub words : length (t .journal) ≡ length (s .journal)
 
+-- a list of strikes, with no undo among them
+abbrev pub OnlyStrikes : List Call → Type 0
+OnlyStrikes [] = Unit {0}
+OnlyStrikes (strikeRow r ∷ cs) = OnlyStrikes cs
+OnlyStrikes (undoLast ∷ cs) = ⊥
+
 -- as many undos as there are strikes
 abbrev pub undos : List ℕ → List Call
 undos [] = []

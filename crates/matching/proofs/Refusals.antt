@@ -81,3 +81,23 @@ tables-fine rd rl td tl =
             listing .1 (g .listing-slices, (g .listing-few, g .listing-formed)),
           ),
     )
+
+-- what a check tells, by its refusal or by its being fine; and how each of its tests tells
+abbrev pub told : {A : Type 0} → (Refusal → A) → A → Tables → A
+told refused fine Fine = fine
+told refused fine (Refused x) = refused x
+
+module _ {A : Type 0} (refused : Refusal → A) (fine : A) where
+  pub told-if : (b : Bool) (x : Refusal) (next : Tables) → told refused fine (refusedIf b x next) ≡ elim b [ true ↦ refused x | false ↦ told refused fine next ]
+  told-if true x next = refl
+  told-if false x next = refl
+
+  pub told-first : (s t : Tables) → told refused fine (first s t) ≡ told refused (told refused fine t) s
+  told-first Fine t = refl
+  told-first (Refused x) t = refl
+
+  pub told-row : (step deep : ℕ → Refusal) (r : RowCheck)
+      → told refused fine (badRow step deep r) ≡ elim r [ found.Fine ↦ fine | found.BadStep v ↦ refused (step v) | found.TooDeep v ↦ refused (deep v) ]
+  told-row step deep found.Fine = refl
+  told-row step deep (found.BadStep v) = refl
+  told-row step deep (found.TooDeep v) = refl

@@ -1,1 +1,1 @@
-// What the user is promised: theorems alone, over the contracts of the crates below. No code.
+// The promises to the user, each one theorem over the contracts of the crates below. There is no code here.
