@@ -6,13 +6,12 @@ use Prim.Native.Nat.{ℕ, zero, suc, _+_, _≤_, _<_}
 use native.Mathlib.Omega.{arith}
 use native.Mathlib.Decide.{decLe}
 use lib.ListN.{length}
-use Rattle.rows.specs.Rows.{Row, depth, Outline, descendants, lastRow}
-use Rattle.rows.specs.Forest.{Forest, nil, cons, size, below, forestAt}
+use Rattle.rows.specs.Rows.{Row, Outline, descendants, lastRow}
+use Rattle.rows.specs.Forest.{Forest, nil, cons, size, below}
 use Rattle.rows.specs.Embedding.{LiesIn}
 use Rattle.rows.proofs.Depths.{last-fits}
-use Rattle.rows.proofs.Order.{Compared, less, same, more, compared}
 use Rattle.rows.specs.Stands.{Stands, Among}
-use Rattle.rows.proofs.Windows.{Window, window-at, window-below, size-below}
+use Rattle.rows.proofs.Windows.{window-below, size-below}
 use Rattle.rows.proofs.Inclusion.{embeds-part, Maps, maps-iff}
 use Rattle.matching.specs.EarliestClose.{Tree}
 use Rattle.matching.specs.Placing.{HeldIn}
@@ -76,15 +75,3 @@ module _ (Fit : ℕ → ℕ → Type 0) (rd td : List ℕ) (kr : Outline rd) (kt
     held-below t s =
         let w = window-below td kt t s in
         rw (size-below td kt t s) at (held-iff v t (below td t) r (w .fits) (w .stands))
-
-    -- of the trees of depth d that begin behind row z and end with row hi
-    pub held-level : (z hi d : ℕ) → z ≤ hi → hi ≤ length td → (z < length td → depth td (suc z) ≤ d) → ((x : ℕ) → z < x → x ≤ hi → d ≤ depth td x)
-        → (hi < length td → depth td (suc hi) < d) → HeldIn Fit rd td v (suc z) hi ↔ LiesIn Fit (cons v (below rd v) nil) (forestAt td z d)
-    held-level z hi d a b c f e =
-        let w = window-at td kt z d (omega arith) c in
-        rw (ends w (compared (z + size (forestAt td z d)) hi)) at (held-iff v z (forestAt td z d) r (w .fits) (w .stands))
-      where
-        ends : Window td z d (forestAt td z d) → Compared (z + size (forestAt td z d)) hi → z + size (forestAt td z d) ≡ hi
-        ends w (less o) = absurd (omega (arith, w .ends (omega arith), f (suc (z + size (forestAt td z d))) (omega arith) o))
-        ends w (same o) = o
-        ends w (more o) = absurd (omega (arith, e (omega (arith, w .fits)), w .rows (suc hi) (omega arith) o))

@@ -3,7 +3,7 @@ use mathlib.Core.Path.{_≡_, refl, sym, ap, _∙_}
 use mathlib.Core.Bool.{Bool, true, false, true≢false}
 use mathlib.Core.List.{List}
 use mathlib.Core.Logic.{_↔_}
-use Prim.Native.Nat.{ℕ, zero, suc, _+_, _≤_, _<_}
+use Prim.Native.Nat.{ℕ, zero, suc, _≤_, _<_}
 use native.Mathlib.Omega.{arith}
 use native.Mathlib.Decide.{decLe}
 use lib.Dec.{eqb}
@@ -11,7 +11,7 @@ use lib.ListN.{length}
 use borrow.Author.Tests.{eqb-true, eq-eqb}
 use Rattle.rows.specs.Rows.{at, Row, Outline, depth, lastRow, closing}
 use Rattle.rows.specs.Forest.{nil, below}
-use Rattle.rows.specs.Embedding.{LiesIn, done}
+use Rattle.rows.specs.Embedding.{done}
 use Rattle.rows.proofs.Depths.{last-fits, inside-deeper, after-shallow}
 use Rattle.rows.proofs.Order.{Compared, less, same, more, compared, window, behind-window}
 use Rattle.rows.proofs.Windows.{at-end}

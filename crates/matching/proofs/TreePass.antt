@@ -3,7 +3,7 @@ use mathlib.Core.Path.{_≡_, refl, sym, ap, _∙_}
 use mathlib.Core.Bool.{Bool, true, false, true≢false}
 use mathlib.Core.List.{List}
 use mathlib.Core.Logic.{_↔_}
-use Prim.Native.Nat.{ℕ, zero, suc, _+_, _≤_, _<_}
+use Prim.Native.Nat.{ℕ, suc, _+_, _≤_, _<_}
 use native.Mathlib.Omega.{arith}
 use native.Mathlib.Decide.{decLe}
 use lib.ListN.{length, getD}
@@ -16,7 +16,7 @@ use Rattle.matching.specs.Shape.{word}
 use Rattle.matching.specs.Asked.{chain, Extends}
 use Rattle.matching.specs.Placing.{HeldIn}
 use Rattle.matching.specs.Room.{recipeOf, Written, closed, joined, alone, joinedAlone}
-use Rattle.matching.specs.Engine.{Ready, Begins, Ends, Sought, Passed, treeAt, cornerOf, withTree}
+use Rattle.matching.specs.Engine.{Ready, Begins, Sought, Passed, treeAt, cornerOf, withTree}
 use Rattle.matching.proofs.TreeJoins.{corner-of-fits, below-last, alone-tree, leaf-ends, tree-corner, tree-ends}
 use Rattle.matching.proofs.Passes.{found-below, none-here, found-here}
 

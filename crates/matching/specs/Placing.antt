@@ -2,7 +2,6 @@
 use mathlib.Core.Bool.{Bool, true, false}
 use mathlib.Core.List.{List}
 use Prim.Native.Nat.{ℕ, zero, suc, _≤_}
-use lib.ListN.{length}
 use Rattle.rows.specs.Rows.{at, Row, lastRow, closing}
 use Rattle.matching.specs.Family.{parent, leftSibling}
 use Rattle.matching.specs.EarliestClose.{Holds, Earliest}

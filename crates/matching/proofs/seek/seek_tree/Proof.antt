@@ -1,6 +1,6 @@
 -- `matching::seek::seek_tree` meets its contract: the row found is the first to close that holds the recipe row. Assumes nothing.
 use mathlib.Core.Path.{_≡_, refl, sym, ap, _∙_}
-use Prim.Native.Nat.{suc, _+_, _-_, _≤_}
+use Prim.Native.Nat.{suc, _-_, _≤_}
 use native.Mathlib.Omega.{arith}
 use lib.ListN.{length, length-set}
 use Rattle.rows.specs.Rows.{depth}
