@@ -88,16 +88,16 @@ def tables(n, most=0):
 
 def came_from(rows, entry):
     """The table with a row as the entry says whose strike leaves these rows, or None."""
-    row, label, _, _ = entry
-    if not 1 <= row <= len(rows) + 1:
+    row, label, _, descendants = entry
+    if not 1 <= row <= len(rows) + 1 or descendants > len(rows):
         return None
     labels = [carried for _, carried in rows]
     labels.insert(row - 1, label)
     if len(rows) < 8:
         tried = tables(len(rows) + 1)
     else:
-        depths = [depth for depth, _ in rows]
-        tried = (depths[:row - 1] + [depth] + [d + 1 for d in depths[row - 1:row - 1 + n]] + depths[row - 1 + n:]
+        left = [depth for depth, _ in rows]
+        tried = (left[:row - 1] + [depth] + [d + 1 for d in left[row - 1:row - 1 + n]] + left[row - 1 + n:]
                  for depth in range(DEEPEST + 1) for n in range(len(rows) + 2 - row))
     for depths in tried:
         if not first_bad(depths):
@@ -274,4 +274,5 @@ def main():
     print(len(code), 'bytes', len(answers), 'calls', {n: answers.count(n) for n in sorted(set(answers), key=int)})
 
 
-main()
+if __name__ == '__main__':
+    main()

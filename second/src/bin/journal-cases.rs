@@ -126,16 +126,33 @@ impl Session {
     }
 }
 
+/// Which words chance gives: any, or those alone for which the proved program's sessions have a byte.
+#[derive(Clone, Copy)]
+enum Words {
+    Any,
+    Bytes,
+}
+
+impl Words {
+    fn word(self, chance: &mut Chance) -> u32 {
+        match (self, chance.word() as u32) {
+            (Words::Any, word) => word,
+            (Words::Bytes, word) if word % 256 == 255 => 70_000,
+            (Words::Bytes, word) => word % 256,
+        }
+    }
+}
+
 /// Slots beyond the rows hold whatever chance gives.
-fn slots(chance: &mut Chance, mut table: Table, capacity: usize) -> Table {
+fn slots(chance: &mut Chance, words: Words, mut table: Table, capacity: usize) -> Table {
     while table.rows() < capacity {
-        table.push(chance.below(200) as u16, chance.word() as u32);
+        table.push(chance.below(200) as u16, words.word(chance));
     }
     table
 }
 
-fn words(chance: &mut Chance, length: usize) -> Vec<u32> {
-    (0..length).map(|_| if chance.percent(50) { chance.below(5) as u32 } else { chance.word() as u32 }).collect()
+fn journal(chance: &mut Chance, words: Words, length: usize) -> Vec<u32> {
+    (0..length).map(|_| if chance.percent(50) { chance.below(5) as u32 } else { words.word(chance) }).collect()
 }
 
 /// A small session that has taken no step: up to 12 rows, some spare slots, an empty journal.
@@ -143,8 +160,9 @@ fn small(chance: &mut Chance, spare: usize, entries: usize) -> Session {
     let manner = Manner { rise: chance.between(20, 90), deepest: 63, labels: 4 };
     let rows = chance.below(13);
     let table = by_chance(chance, rows, manner);
-    let slots = slots(chance, table, rows + spare);
-    let journal = words(chance, 4 * entries);
+    let words = if chance.percent(20) { Words::Any } else { Words::Bytes };
+    let slots = slots(chance, words, table, rows + spare);
+    let journal = journal(chance, words, 4 * entries);
     Session::new(slots, rows, journal, 0)
 }
 
@@ -213,8 +231,9 @@ fn damaged_entries(chance: &mut Chance) -> Vec<Session> {
             if session.counts.entries > 0 {
                 let at = 4 * session.counts.entries - 4 + chance.below(4);
                 let (before, word) = (session.journal[at], chance.word() as u32);
-                let others = [before.wrapping_add(1), before.wrapping_sub(1), 0, 1, 65536 + before, u32::MAX, word];
-                session.put(3, at, others[chance.below(7)]);
+                let others =
+                    [before.wrapping_add(1), before.wrapping_sub(1), 0, 1, 70_000, 65536 + before, u32::MAX, word];
+                session.put(3, at, others[chance.below(8)]);
                 session.undo();
                 if session.journal[at] != 0 {
                     session.put(3, at, before);
@@ -303,7 +322,7 @@ fn bad_counts(chance: &mut Chance) -> Vec<Session> {
 fn deep(chance: &mut Chance) -> Vec<Session> {
     let mut sessions = Vec::new();
     for last in [62, 63] {
-        let table = slots(chance, chain(last, 5), 66);
+        let table = slots(chance, Words::Bytes, chain(last, 5), 66);
         let rows = last as usize + 1;
         let mut session = Session::new(table.clone(), rows, vec![0; 12], 0);
         [1, rows - 1, 30].iter().for_each(|&row| session.strike(row));
@@ -327,8 +346,8 @@ fn large(chance: &mut Chance) -> Vec<Session> {
         [(4096, 4096, 16), (4090, 4096, 16_384), (4096, 4097, 8), (9, 12, 16_388), (9, 12, 16_380)]
     {
         let table = by_chance(chance, rows, Manner { rise: 50, deepest: 63, labels: 9 });
-        let slots = slots(chance, table, capacity);
-        let (journal, counted) = (words(chance, length), (length / 4).saturating_sub(2));
+        let slots = slots(chance, Words::Any, table, capacity);
+        let (journal, counted) = (journal(chance, Words::Any, length), (length / 4).saturating_sub(2));
         let mut session = Session::new(slots, rows, journal, counted);
         session.undo();
         [1, rows / 2, rows - 2].iter().for_each(|&row| session.strike(row));

@@ -209,6 +209,24 @@ fn write_limits(chance: &mut Chance) -> Vec<Vec<u8>> {
     cases
 }
 
+/// Rows in even steps that keep the low byte of the lent bytes: the proved program's cases can fill rows and bytes so.
+fn write_steps(chance: &mut Chance) -> Vec<Vec<u8>> {
+    let mut cases = Vec::new();
+    let sizes: Vec<usize> = (0..600).map(|i| i % 12).chain([255, 256, 257, 4095, 4096, 4097]).collect();
+    for rows in sizes {
+        let (first, step) = (chance.word() as u32 & !0xff | 0xc3, chance.word() as u32 & !0xff);
+        let labels = |count| (0..count as u32).map(|i| first.wrapping_add(i.wrapping_mul(step))).collect::<Vec<_>>();
+        let depths = |count| labels(count).iter().map(|&label| label as u16).collect::<Vec<_>>();
+        let length = 20 + 6 * rows;
+        for lent in [0, length - 1, length, length + chance.below(30)] {
+            cases.push(writer_case(&Table { depths: depths(rows), labels: labels(rows) }, lent));
+        }
+        cases.push(writer_case(&Table { depths: depths(rows), labels: labels(rows + 1) }, length));
+        cases.push(writer_case(&Table { depths: depths(rows + 1), labels: labels(rows) }, length));
+    }
+    cases
+}
+
 fn main() {
     let mut chance = Chance(5);
     let groups = [
@@ -221,6 +239,7 @@ fn main() {
         ("read-fields", read_fields(&mut chance)),
         ("written", written(&mut chance)),
         ("write-limits", write_limits(&mut chance)),
+        ("write-steps", write_steps(&mut chance)),
     ];
     let bytes = framed(groups.iter().flat_map(|(_, group)| group));
     std::fs::write(file_argument(), &bytes).expect("the file cannot be written");
