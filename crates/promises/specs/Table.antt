@@ -112,7 +112,8 @@ UndoTable s =
     (Given 27 (At 0 (s .entries ≡ 0))
     (Given 28 (At 0 (s .rows ≡ length (s .depths))) (Given 29 (At 0 (Undoable (newest s) (usedDepths s) (usedLabels s) → ⊥)) Fine)))
 
--- the C entry past number 19, of a recipe of n rows and a listing of k: both parcels in reading order, then 15, then 1 to 10
+-- the C entry past number 19, of a recipe of n rows and a listing of k: both parcels in reading order, then 15, then 1 to 9. Number 10 never
+-- comes: the entry lends its own map, of 256 slots, and a recipe has no more rows
 abbrev pub EntryTableAt : List ℕ → ℕ → ℕ → ℕ → ℕ → Type 0
 EntryTableAt input n k =
     ReadRows input 0 Recipe recipeRows recipeRows
