@@ -27,6 +27,7 @@ pub mod Placing
 pub mod Refusals
 pub mod Scan
 pub mod Search
+pub mod Seeking
 pub mod Siblings
 pub mod Sides
 pub mod Standing
@@ -34,5 +35,6 @@ pub mod TreeJoins
 pub mod TreePass
 pub mod TreeRow
 pub mod Verdict
+pub mod Walks
 pub mod Width
 pub mod Written

@@ -12,3 +12,4 @@ pub mod Linked
 pub mod Placing
 pub mod Room
 pub mod Shape
+pub mod Window

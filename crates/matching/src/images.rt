@@ -10,7 +10,7 @@ ghost use Rattle.matching.specs.Placing.{barred, HeldIn, FirstIn};
 ghost use Rattle.matching.specs.Room.{recipeOf, roomWords};
 ghost use Rattle.matching.specs.Engine.{Ready, Known};
 use crate::link::kin_of;
-use crate::seek::seek;
+use crate::window::seek_behind;
 
 // The image of recipe row v; 0 where there is none.
 fn image_of(map: &[u16], v: u16) -> u16
@@ -53,7 +53,7 @@ fn find_image(
             return known;
         }
     }
-    seek(depths, names, shape, labels, asked, room, v, from)
+    seek_behind(depths, from, names, shape, labels, asked, room, v)
 }
 
 // Places all recipe rows: the first slots of the map become the map of earliest close, and later slots stay. The image of row 1

@@ -9,6 +9,7 @@ mod link;
 mod seek;
 mod shape;
 mod tables;
+mod window;
 
 pub use answering::include;
 pub use judging::judge;

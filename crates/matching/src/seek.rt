@@ -11,6 +11,7 @@ ghost use Rattle.matching.specs.EarliestClose.{Holds};
 ghost use Rattle.matching.specs.Placing.{HeldIn, FirstIn, latest};
 ghost use Rattle.matching.specs.Room.{recipeOf, roomWords};
 ghost use Rattle.matching.specs.Engine.{Ready};
+ghost use Rattle.matching.specs.Window.{Whole};
 use crate::corners::Pass;
 use crate::corners::forest_corners;
 use crate::shape::leaf_of;
@@ -59,56 +60,59 @@ fn seek_label(depths: &[u16], names: &[u32], name: u32, from: usize) -> usize
 // The same for any recipe row v, by the corners: forest by forest, each shallower than the one before.
 fn seek_tree(
     depths: &[u16],
+    first: usize,
+    end: usize,
     names: &[u32],
     shape: &[u16; 1028],
     labels: &[u32],
     asked: &mut [u16; 513],
     room: &mut [u16; 14592],
     v: u16,
-    from: usize,
 ) -> usize
     requires { ⌜ Ready (now shape) (now labels) (now depths) (now names) × Row (recipeOf (now shape) (now labels)) v ⌝ }
-    requires { ⌜ HeldIn (SameLabel (now labels) (now names)) (recipeOf (now shape) (now labels)) (now depths) v (suc from) (length (now depths)) ⌝ }
+    requires { ⌜ HeldIn (SameLabel (now labels) (now names)) (recipeOf (now shape) (now labels)) (now depths) v (suc first) end × Whole (now depths) first end ⌝ }
     requires { ⌜ (length (now asked) ≡ 513) × (length (now room) ≡ roomWords) ⌝ }
-    ensures { λ r. ⌜ FirstIn (now (depths .entry)) (Holds (SameLabel (now (labels .entry)) (now (names .entry))) (recipeOf (now (shape .entry)) (now (labels .entry))) (now (depths .entry)) v) (suc from) (length (now (depths .entry))) r ⌝ }
+    ensures { λ r. ⌜ FirstIn (now (depths .entry)) (Holds (SameLabel (now (labels .entry)) (now (names .entry))) (recipeOf (now (shape .entry)) (now (labels .entry))) (now (depths .entry)) v) (suc first) end r ⌝ }
     ensures { λ r. ⌜ (length (now (asked .exit)) ≡ 513) × (length (now (room .exit)) ≡ roomWords) ⌝ }
 {
     asked[0] = v;
     asked[256 + (v as usize)] = 0;
-    let mut at = from;
-    while at < depths.len() {
+    let mut at = first;
+    while at < end {
         let pass = forest_corners(depths, names, shape, labels, asked, room, 0, 1, v, at);
         match pass {
             Pass::Found(row) => {
                 return row;
             }
-            Pass::Through(end) => {
-                at = end;
+            Pass::Through(before) => {
+                at = before;
             }
         }
     }
     0
 }
 
-// Of the rows behind `from` rows, some of which hold recipe row v with all its descendants, the first of these to close.
+// Of the rows behind `first` rows up to row `end`, some of which hold recipe row v with all its descendants, the first of these to
+// close.
 pub(crate) fn seek(
     depths: &[u16],
+    first: usize,
+    end: usize,
     names: &[u32],
     shape: &[u16; 1028],
     labels: &[u32],
     asked: &mut [u16; 513],
     room: &mut [u16; 14592],
     v: u16,
-    from: usize,
 ) -> usize
     requires { ⌜ Ready (now shape) (now labels) (now depths) (now names) × Row (recipeOf (now shape) (now labels)) v ⌝ }
-    requires { ⌜ HeldIn (SameLabel (now labels) (now names)) (recipeOf (now shape) (now labels)) (now depths) v (suc from) (length (now depths)) ⌝ }
+    requires { ⌜ HeldIn (SameLabel (now labels) (now names)) (recipeOf (now shape) (now labels)) (now depths) v (suc first) end × Whole (now depths) first end ⌝ }
     requires { ⌜ (length (now asked) ≡ 513) × (length (now room) ≡ roomWords) ⌝ }
-    ensures { λ r. ⌜ FirstIn (now (depths .entry)) (Holds (SameLabel (now (labels .entry)) (now (names .entry))) (recipeOf (now (shape .entry)) (now (labels .entry))) (now (depths .entry)) v) (suc from) (length (now (depths .entry))) r ⌝ }
+    ensures { λ r. ⌜ FirstIn (now (depths .entry)) (Holds (SameLabel (now (labels .entry)) (now (names .entry))) (recipeOf (now (shape .entry)) (now (labels .entry))) (now (depths .entry)) v) (suc first) end r ⌝ }
     ensures { λ r. ⌜ (length (now (asked .exit)) ≡ 513) × (length (now (room .exit)) ≡ roomWords) ⌝ }
 {
     if leaf_of(shape, v) == v {
-        return seek_label(depths, names, labels[(v as usize) - 1], from);
+        return seek_label(depths, names, labels[(v as usize) - 1], first);
     }
-    seek_tree(depths, names, shape, labels, asked, room, v, from)
+    seek_tree(depths, first, end, names, shape, labels, asked, room, v)
 }

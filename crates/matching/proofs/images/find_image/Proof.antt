@@ -11,11 +11,11 @@ returns c =
     let k = start .pre .1 .1 .0 in
     (rw (one, k .0 one) (k .1 (omega (arith, c .if2 .taken))), start .pre .1 .1 .1)
 
-seek-requires : tie.Need-seek-requires
-seek-requires c κs = search needs
+seek-behind-requires : tie.Need-seek-behind-requires
+seek-behind-requires c κs = search needs
 
 returns-2 : tie.Need-returns-2
 returns-2 c = search needs
 
 pub find-image-spec : {M : Type 1} → statement M
-find-image-spec = tie.close (tie.spec returns seek-requires returns-2)
+find-image-spec = tie.close (tie.spec returns seek-behind-requires returns-2)

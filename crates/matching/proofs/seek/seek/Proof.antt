@@ -9,6 +9,7 @@ use Rattle.rows.proofs.AtLaws.{at-row}
 use Rattle.matching.specs.Family.{leftLeaf}
 use Rattle.matching.specs.Placing.{FirstIn}
 use Rattle.matching.specs.Room.{recipeOf}
+use Rattle.matching.proofs.FirstIn.{narrow}
 use Rattle.matching.proofs.Scan.{leaf-held, first-fit}
 use Rattle.matching.proofs.Width.{length-words}
 use borrow.Author.Needs.{needs}
@@ -38,16 +39,22 @@ seek-label-requires c κs =
     let start = c .before .before .before .before .before .before in
     let a = start .args in
     let k = start .pre .0 .0 in
-    let h = start .pre .1 .0 in
-    let f = leaf-held (SameLabel (a .labels .now) (a .names .now)) _ (a .depths .now) (k .outline) (k .listing .outline) (a .v) (start .pre .0 .1) (leaf (c .before)) (h .0) (omega (arith, h .1, h .2)) .0 (h .3) in
-    ((k .listing .outline, k .names), (h .0, h .1, h .2, sym (at-row (a .labels .now) (a .v) (start .pre .0 .1 .0)) ∙ f))
+    let h = start .pre .1 .0 .0 in
+    let whole = start .pre .1 .0 .1 in
+    let f = leaf-held (SameLabel (a .labels .now) (a .names .now)) _ (a .depths .now) (k .outline) (k .listing .outline) (a .v) (start .pre .0 .1) (leaf (c .before)) (h .0) (omega (arith, h .1, h .2, whole .0)) .0 (h .3) in
+    ((k .listing .outline, k .names), (h .0, h .1, omega (arith, h .2, whole .0), sym (at-row (a .labels .now) (a .v) (start .pre .0 .1 .0)) ∙ f))
 
 returns : tie.Need-returns
 returns c =
     let start = c .before .before .before .before .before .before .before in
     let a = start .args in
     let k = start .pre .0 .0 in
-    (first-fit (SameLabel (a .labels .now) (a .names .now)) _ (a .depths .now) (k .outline) (k .listing .outline) (a .v) (start .pre .0 .1) (leaf (c .before .before)) (suc (a .from)) (c .seek-label .result) (omega arith) (subst (λ (x : ℕ). FirstIn (a .depths .now) (λ t. x ≡ at (a .names .now) t) (suc (a .from)) (length (a .depths .now)) (c .seek-label .result)) (sym (at-row (a .labels .now) (a .v) (start .pre .0 .1 .0))) (c .seek-label .ensures)), start .pre .1 .1)
+    let h = start .pre .1 .0 .0 in
+    let whole = start .pre .1 .0 .1 in
+    let t = c .seek-label .result in
+    let f = subst (λ (x : ℕ). FirstIn (a .depths .now) (λ t. x ≡ at (a .names .now) t) (suc (a .first)) (length (a .depths .now)) t) (sym (at-row (a .labels .now) (a .v) (start .pre .0 .1 .0))) (c .seek-label .ensures) in
+    let g = first-fit (SameLabel (a .labels .now) (a .names .now)) _ (a .depths .now) (k .outline) (k .listing .outline) (a .v) (start .pre .0 .1) (leaf (c .before .before)) (suc (a .first)) t (omega arith) f in
+    (narrow (a .depths .now) (k .listing .outline) _ (suc (a .first)) (a .end) (length (a .depths .now)) t (omega arith) (whole .0) (omega arith) (whole .1) (h .0) (h .1) (h .2) (h .3) g, start .pre .1 .1)
 
 seek-tree-requires : tie.Need-seek-tree-requires
 seek-tree-requires c κs = search needs
