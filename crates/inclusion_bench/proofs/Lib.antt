@@ -1,0 +1,2 @@
+-- The laws about the contract of `inclusion_bench`.
+pub mod OneOutcome
