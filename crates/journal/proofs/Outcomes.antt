@@ -2,33 +2,12 @@
 use mathlib.Core.Path.{_≡_, sym, ap, _∙_}
 use mathlib.Core.List.{List}
 use Prim.Native.Nat.{ℕ}
-use contract.Lifetimes.{Lfts}
-use denote.Ref.{now}
-use denote.Triple.Clauses.{AtExit}
-use borrow.Fn.Kinds.{Dens, resT, endedOf}
 use Rattle.journal.specs.declared.Answer.{Answer}
 use Rattle.journal.specs.declared.Verdict.{Verdict}
 use Rattle.journal.specs.declared.Verdict.the-variants.{Allowed, Denied}
 use Rattle.journal.specs.Lent.{Lent, lent, struck, undone}
 use Rattle.journal.specs.Refusals.{answered, settled, strikeVerdict, afterStrike, undoVerdict, afterUndo}
 use Rattle.journal.specs.Outcome.{Outcome, Meets, MeetsStrike, MeetsUndo, rowsNow, entriesNow, takenOver}
-use Rattle.journal.proofs.strike.Kinds as strike
-use Rattle.journal.proofs.strike.Reads as strike-contract
-use Rattle.journal.proofs.undo.Kinds as undo
-use Rattle.journal.proofs.undo.Reads as undo-contract
-
--- an outcome that meets the contract in the source is one that meets it in this form
-pub strike-meets : (κs : Lfts 3) (args : Dens κs strike.ps) (r : resT strike.r κs .Denot) (x : AtExit (endedOf 3 strike.ps strike.r) κs)
-    → strike-contract.Post κs args r x
-    → MeetsStrike (lent (now (args .0)) (now (args .1 .0)) (args .1 .1 .0) (now (args .1 .1 .1 .0)) (args .1 .1 .1 .1 .0)) (args .1 .1 .1 .1 .1 .0)
-    (record { answer = r; depths = now (x .0); labels = now (x .1 .0); journal = now (x .1 .1 .1 .0) })
-strike-meets κs args r x p = record { answer = p .0; depths = p .1 .0; labels = p .1 .1 .0; journal = p .1 .1 .1 }
-
-pub undo-meets : (κs : Lfts 3) (args : Dens κs undo.ps) (r : resT undo.r κs .Denot) (x : AtExit (endedOf 3 undo.ps undo.r) κs)
-    → undo-contract.Post κs args r x
-    → MeetsUndo (lent (now (args .0)) (now (args .1 .0)) (args .1 .1 .0) (now (args .1 .1 .1 .0)) (args .1 .1 .1 .1 .0))
-    (record { answer = r; depths = now (x .0); labels = now (x .1 .0); journal = now (x .1 .1 .1 .0) })
-undo-meets κs args r x p = record { answer = p .0; depths = p .1 .0; labels = p .1 .1 .0; journal = p .1 .1 .1 }
 
 one-outcome : {a : Answer} {t : Lent} (o p : Outcome) → Meets o a t → Meets p a t → o ≡ p
 one-outcome o p x y = same (x .answer ∙ sym (y .answer)) (x .depths ∙ sym (y .depths)) (x .labels ∙ sym (y .labels)) (x .journal ∙ sym (y .journal))
