@@ -3,6 +3,7 @@ mod answering;
 mod asked;
 mod corners;
 mod images;
+mod joining;
 mod judging;
 mod leaves;
 mod link;

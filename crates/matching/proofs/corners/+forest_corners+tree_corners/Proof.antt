@@ -24,7 +24,7 @@ use Rattle.matching.proofs.corners.+forest_corners+tree_corners.Lts-tre
 use Rattle.matching.proofs.asked.extend.Reads as extend-reads
 use Rattle.matching.proofs.corners.clear.Reads as clear-reads
 use Rattle.matching.proofs.corners.close_asked.Reads as close-asked-reads
-use Rattle.matching.proofs.corners.close_row.Reads as close-row-reads
+use Rattle.matching.proofs.joining.close_row.Reads as close-row-reads
 use Rattle.matching.proofs.corners.has_rows.Reads as has-rows-reads
 use Rattle.matching.proofs.corners.is_found.Reads as is-found-reads
 use Rattle.matching.proofs.corners.join_asked.Reads as join-asked-reads

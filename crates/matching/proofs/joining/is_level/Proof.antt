@@ -1,11 +1,11 @@
--- `matching::corners::is_level` meets its contract: a row is as high as another just when its depth word says so. Assumes nothing.
+-- `matching::joining::is_level` meets its contract: a row is as high as another just when its depth word says so. Assumes nothing.
 use native.Mathlib.Omega.{arith}
 use mathlib.Core.Path.{sym, _∙_}
 use mathlib.Core.Bool.{true≢false}
 use borrow.Author.Tests.{eqb-true, eq-eqb}
 use borrow.Author.Needs.{needs}
-use Rattle.matching.proofs.corners.is_level.Statement.{statement}
-use Rattle.matching.proofs.corners.is_level.Tie as tie
+use Rattle.matching.proofs.joining.is_level.Statement.{statement}
+use Rattle.matching.proofs.joining.is_level.Tie as tie
 
 returns : tie.Need-returns
 returns c = (λ e. absurd (true≢false (sym e)), λ h. absurd (omega arith))

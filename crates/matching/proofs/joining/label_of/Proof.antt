@@ -1,10 +1,10 @@
--- `matching::corners::label_of` meets its contract: the label of a recipe row. Assumes nothing.
+-- `matching::joining::label_of` meets its contract: the label of a recipe row. Assumes nothing.
 use native.Mathlib.Omega.{arith}
 use Rattle.rows.proofs.AtLaws.{at-row}
 use mathlib.Core.Path.{sym}
 use borrow.Author.Needs.{needs}
-use Rattle.matching.proofs.corners.label_of.Statement.{statement}
-use Rattle.matching.proofs.corners.label_of.Tie as tie
+use Rattle.matching.proofs.joining.label_of.Statement.{statement}
+use Rattle.matching.proofs.joining.label_of.Tie as tie
 
 returns : tie.Need-returns
 returns c = search needs

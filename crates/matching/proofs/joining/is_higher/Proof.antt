@@ -1,11 +1,11 @@
--- `matching::corners::is_higher` meets its contract: a row is higher than another just when its depth word says so. Assumes nothing.
+-- `matching::joining::is_higher` meets its contract: a row is higher than another just when its depth word says so. Assumes nothing.
 use native.Mathlib.Omega.{arith}
 use mathlib.Core.Path.{sym}
 use mathlib.Core.Bool.{true≢false}
 use borrow.Author.Tests.{ltb-true, lt-ltb}
 use borrow.Author.Needs.{needs}
-use Rattle.matching.proofs.corners.is_higher.Statement.{statement}
-use Rattle.matching.proofs.corners.is_higher.Tie as tie
+use Rattle.matching.proofs.joining.is_higher.Statement.{statement}
+use Rattle.matching.proofs.joining.is_higher.Tie as tie
 
 returns : tie.Need-returns
 returns c = (λ e. absurd (true≢false (sym e)), λ h. absurd (omega arith))

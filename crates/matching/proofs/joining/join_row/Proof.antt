@@ -1,11 +1,11 @@
--- `matching::corners::join_row` meets its contract: the corner of two forests side by side is the higher one, or the wider of two as high. Assumes nothing.
+-- `matching::joining::join_row` meets its contract: the corner of two forests side by side is the higher one, or the wider of two as high. Assumes nothing.
 use mathlib.Core.Path.{sym, _∙_}
 use mathlib.Core.Bool.{true≢false}
 use Rattle.matching.specs.Room.{recipeOf}
 use Rattle.matching.proofs.CornerWords.{words-none, words-higher, words-wider, words-kept}
 use borrow.Author.Needs.{needs}
-use Rattle.matching.proofs.corners.join_row.Statement.{statement}
-use Rattle.matching.proofs.corners.join_row.Tie as tie
+use Rattle.matching.proofs.joining.join_row.Statement.{statement}
+use Rattle.matching.proofs.joining.join_row.Tie as tie
 
 returns : tie.Need-returns
 returns c =

@@ -1,10 +1,10 @@
--- `matching::corners::close_row` meets its contract: the corner of a tree, from the corner of the rows below its root. Assumes nothing.
+-- `matching::joining::close_row` meets its contract: the corner of a tree, from the corner of the rows below its root. Assumes nothing.
 use Rattle.matching.proofs.CornerWords.{words-new, words-empty, words-top, words-wide, words-raise, words-other, leaf-labelled, parent-labelled}
 use native.Mathlib.Omega.{arith}
 use Rattle.matching.specs.Room.{recipeOf}
 use borrow.Author.Needs.{needs}
-use Rattle.matching.proofs.corners.close_row.Statement.{statement}
-use Rattle.matching.proofs.corners.close_row.Tie as tie
+use Rattle.matching.proofs.joining.close_row.Statement.{statement}
+use Rattle.matching.proofs.joining.close_row.Tie as tie
 
 leaf-of-requires : tie.Need-leaf-of-requires
 leaf-of-requires c κs = search needs
