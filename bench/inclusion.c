@@ -25,9 +25,12 @@ static u32 next(u32 below)
     return (seed >> 8) % below;
 }
 
-/* ---- the same algorithm: corners of the chains asked, then an image for each row by a pass that stops there ---- */
+/* ---- the same algorithm: corners of the chains asked; then an image for each row, by its label, by the log of an earlier pass, or by a
+   pass that stops at the image and logs for each row it closes which rows of a path it includes ---- */
+enum { PATH = 15, PATH_RECIPE = 228 };
 static u16 parent[RECIPE + 1], right[RECIPE + 1], left[RECIPE + 1], leaf[RECIPE + 1], deep[RECIPE + 1];
-static u16 asked[RECIPE], place[RECIPE + 1], room[ROOM];
+static u16 asked[RECIPE], place[RECIPE + 1], room[ROOM], mark[RECIPE + 1];
+static unsigned char logged[LISTING];
 static u16 last[LISTING + 1];
 
 static void build(void)
@@ -60,16 +63,15 @@ static u16 join_row(u16 a, u16 b, u16 w)
     return w && deep[w] == deep[a] ? w : a;
 }
 
-/* A pass ends behind its rows, or at the first row to close that holds the row sought: that is the row's number, negative. */
-static int forest_corners(int base, int q, u16 goal, int first);
+/* A pass ends behind its rows, or at the first row to close that holds the first of the k rows of the path that are asked first: that
+   is the row's number, negative. */
+static int forest_corners(int base, int q, int k, int first);
 
-static int is_found(u16 goal, u16 w) { return goal && w && deep[w] == deep[goal]; }
-
-static int tree_corners(int base, int q, u16 goal, int first)
+static int tree_corners(int base, int q, int k, int first)
 {
     u32 name = tl[first];
     if (first + 1 >= n || td[first + 1] <= td[first]) {
-        if (goal && is_found(goal, close_row(name, goal, 0))) return -(first + 1);
+        if (k > 1) logged[first] = PATH;
         for (int i = 0; i < q; i++) {
             u16 a = room[base + i], y = right[a];
             room[base + i] = join_row(a, close_row(name, asked[i], 0), y ? close_row(name, y, 0) : 0);
@@ -81,11 +83,15 @@ static int tree_corners(int base, int q, u16 goal, int first)
         u16 y = right[room[base + i]];
         if (y && !(place[y] < z && asked[place[y]] == y)) asked[z] = y, place[y] = (u16)z++;
     }
-    int end = forest_corners(base + q, z, goal, first + 1);
+    int end = forest_corners(base + q, z, k, first + 1);
     if (end < 0) return end;
     for (int i = 0; i < z; i++)
         room[base + q + i] = close_row(name, asked[i], room[base + q + i]);
-    if (is_found(goal, room[base + q])) return -(first + 1);
+    int held = 0;
+    while (held < k && !(room[base + q + held] && deep[room[base + q + held]] == deep[asked[held]]))
+        held++;
+    if (k > 1) logged[first] = (unsigned char)held;
+    if (k && !held) return -(first + 1);
     for (int i = 0; i < q; i++) {
         u16 a = room[base + i], y = right[a];
         room[base + i] = join_row(a, room[base + q + i], y ? room[base + q + place[y]] : 0);
@@ -93,13 +99,13 @@ static int tree_corners(int base, int q, u16 goal, int first)
     return end;
 }
 
-static int forest_corners(int base, int q, u16 goal, int first)
+static int forest_corners(int base, int q, int k, int first)
 {
     for (int i = 0; i < q; i++)
         room[base + i] = 0;
     int at = first;
     while (at >= 0 && at < n && td[at] >= td[first])
-        at = tree_corners(base, q, goal, at);
+        at = tree_corners(base, q, k, at);
     return at;
 }
 
@@ -111,13 +117,45 @@ static u16 seek_label(u32 name, int at)
     return (u16)hit;
 }
 
+static u16 seek_logged(int most, int at)
+{
+    int hit = 0;
+    for (; at < n && !(hit && td[at] <= td[hit - 1]); at++)
+        if (logged[at] <= most) hit = at + 1;
+    return (u16)hit;
+}
+
+/* of the children of row u the one with the most rows below it */
+static u16 widest_child(u16 u)
+{
+    u16 best = (u16)(u + 1);
+    int most = 0;
+    for (u16 c = best; c; c = right[c]) {
+        int below = 0;
+        while (c + below < m && rd[c + below] > rd[c - 1])
+            below++;
+        if (most < below) most = below, best = c;
+    }
+    return best;
+}
+
+static u16 seek_path(u16 v, int at)
+{
+    int k = 0, most = m <= PATH_RECIPE ? PATH : 1;
+    for (u16 u = v; k < most && leaf[u] != u; u = widest_child(u)) {
+        asked[k] = u, place[u] = (u16)k;
+        if (k) mark[u] = (u16)k;
+        k++;
+    }
+    while (at >= 0 && at < n)
+        at = forest_corners(0, k, k, at);
+    return (u16)-at;
+}
+
 static u16 seek(u16 v, int at)
 {
     if (leaf[v] == v) return seek_label(rl[v - 1], at);
-    asked[0] = v, place[v] = 0;
-    while (at >= 0 && at < n)
-        at = forest_corners(0, 1, v, at);
-    return (u16)-at;
+    return mark[v] ? seek_logged(mark[v], at) : seek_path(v, at);
 }
 
 static int last_row(int t)
@@ -133,13 +171,15 @@ __attribute__((noinline)) static u64 same(void)
     build();
     int pass = 0;
     room[0] = 0;
-    if (n) asked[0] = 1, place[1] = 0, pass = forest_corners(0, 1, !right[1], 0);
+    if (n) asked[0] = 1, place[1] = 0, pass = forest_corners(0, 1, !right[1] && leaf[1] != 1, 0);
     u16 w = pass < 0 ? 1 : room[0];
     if (w == 0) return 2 * (u64)leaf[1];
     u64 width = 0;
     for (u16 u = w; u; u = left[u])
         width++;
     if (deep[w] || right[w]) return 2 * (65536 * width + parent[w]);
+    for (u16 v = 1; v <= m; v++)
+        mark[v] = 0;
     for (u16 v = 1; v <= m; v++) {
         int from = left[v] ? last_row(map_c[left[v] - 1]) : parent[v] ? map_c[parent[v] - 1] : 0;
         map_c[v - 1] = v == 1 && pass < 0 ? (u16)-pass : seek(v, from);
@@ -229,6 +269,29 @@ static void padded_comb(int height, int others)
     }
 }
 
+/* The same with three leaves left of each link: nearly as large as a recipe may be. */
+static void large_comb(int others)
+{
+    n = m = 0;
+    for (int i = 0; i <= 4 * DEEPEST; i++) {
+        u16 depth = (u16)((i + 3) / 4);
+        m = grow(rd, rl, m, RECIPE, depth, 1), n = grow(td, tl, n, LISTING, depth, 1);
+        for (int k = 0; i % 4 == 3 && k < others; k++) n = grow(td, tl, n, LISTING, depth, 2);
+    }
+    if (n > LISTING) n = LISTING;
+}
+
+/* Roots alone, in a listing whose levels have 1, 2, 4 and so on such rows before they go down: of the rows at the bottom all chains are
+   asked. */
+static void all_asked(void)
+{
+    n = m = 0;
+    while (m < RECIPE) m = grow(rd, rl, m, RECIPE, 0, 1);
+    for (int depth = 0; depth < 8; depth++)
+        for (int i = 0; i < 1 << depth; i++) n = grow(td, tl, n, LISTING, (u16)depth, 1);
+    while (n < LISTING) n = grow(td, tl, n, LISTING, 8, 2);
+}
+
 static void chance(u32 labels, int flat, int slope)
 {
     n = LISTING, m = RECIPE;
@@ -296,6 +359,8 @@ int main(void)
     comb(26, 1), wrong |= measure("comb, h = 26");
     comb(63, 1), wrong |= measure("comb, h = 63");
     padded_comb(63, 62), wrong |= measure("comb among others, h = 63");
+    large_comb(60), wrong |= measure("large comb among others");
+    all_asked(), wrong |= measure("all chains asked");
     chance(1, 0, 0), wrong |= measure("one label, by chance");
     chance(2, 0, 8), wrong |= measure("two labels, deep");
     chance(1, 1, 8), wrong |= measure("star in a deep listing");

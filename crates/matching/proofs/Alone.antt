@@ -1,7 +1,7 @@
 -- One chain alone is asked: what the corner functions need then. Assumes nothing.
 use mathlib.Core.Path.{_≡_, ap, _∙_}
 use mathlib.Core.List.{List}
-use Prim.Native.Nat.{ℕ, _+_, _-_, _≤_, _<_}
+use Prim.Native.Nat.{ℕ, _+_, _≤_, _<_}
 use native.Mathlib.Omega.{arith}
 use lib.ListN.{length, set, length-set}
 use lib.Seq.{getD-set-same, getD-set-other}
@@ -11,7 +11,7 @@ use Rattle.rows.proofs.Windows.{at-end}
 use Rattle.matching.specs.Asked.{chain, Asked}
 use Rattle.matching.specs.Room.{roomWords, recipeOf}
 use Rattle.matching.specs.Engine.{Begins}
-use Rattle.matching.proofs.Written.{room-levels}
+use Rattle.matching.proofs.Written.{room-one, room-below}
 
 module _ (ws : List ℕ) (v : ℕ) (size : length ws ≡ 513) (high : v ≤ 256) where
   abbrev pub askAlone : List ℕ
@@ -30,13 +30,10 @@ module _ (ws : List ℕ) (v : ℕ) (size : length ws ≡ 513) (high : v ≤ 256)
             rw (e, alone-chain) (getD-set-same (set ws 0 v) (256 + v) 0 0 (omega (arith, length-set ws 0 v)));
       }
 
-  pub begins-alone : (sh rl rs : List ℕ) (d : ℕ) → Row (recipeOf sh rl) v → length rs ≡ roomWords → Begins sh rl askAlone rs 0 1 d
-  begins-alone sh rl rs d r n =
-      record {
-        chains = alone-asked (length (recipeOf sh rl)) (r .0) (r .1);
-        words = n;
-        room = omega (arith, room-levels 1 (64 - d) 64 (omega arith));
-      }
+  pub begins-alone : (sh rl rs : List ℕ) (d : ℕ) → length (recipeOf sh rl) ≤ 256 → Row (recipeOf sh rl) v → length rs ≡ roomWords → Begins sh rl askAlone rs 0 1 d
+  begins-alone sh rl rs d few r n =
+      let m = length (recipeOf sh rl) in
+      record { chains = alone-asked m (r .0) (r .1); words = n; room = room-below m 1 64 d roomWords (room-one m 1 few (omega arith)) }
 
 -- the whole forest of the listing, with no row and with some
 pub forest-none : (td : List ℕ) → length td ≡ 0 → forest td ≡ nil

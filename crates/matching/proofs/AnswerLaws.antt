@@ -59,7 +59,7 @@ module _ (rd rl td tl m : List ℕ) (g : GoodTables rd rl td tl) (room : length 
   kt = g .listing-formed .outline
 
   pub ready : Ready ws rl td tl
-  ready = record { outline = rw recipe-is kr; shape = rw recipe-is k; listing = g .listing-formed; names = sym (g .listing-slices) }
+  ready = record { outline = rw recipe-is kr; shape = rw recipe-is k; listing = g .listing-formed; names = sym (g .listing-slices); few = g .listing-few }
 
   fine : includeCheck rd rl td tl m ≡ Fine
   fine = check-fine rd rl td tl m ((tables-fine rd rl td tl) .1 g) room

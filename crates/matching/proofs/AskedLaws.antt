@@ -103,6 +103,10 @@ asked-room m ws z y k a b n =
     off u n (yes e) = absurd (n e)
     off u n (no e) = refl
 
+-- fewer chains
+pub asked-fewer : (m : ℕ) (ws : List ℕ) (y z : ℕ) → y ≤ z → Asked m ws z → Asked m ws y
+asked-fewer m ws y z h k = record { size = k .size; rows = λ i l. k .rows i (omega arith); places = λ i l. k .places i (omega arith) }
+
 -- of fewer rows, of more
 pub asked-more : (m n : ℕ) (ws : List ℕ) (z : ℕ) → m ≤ n → Asked m ws z → Asked n ws z
 asked-more m n ws z h k = record { size = k .size; rows = λ i l. omega (arith, k .rows i l); places = k .places }

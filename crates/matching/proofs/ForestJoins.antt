@@ -3,145 +3,222 @@ use mathlib.Core.Path.{_≡_, refl, sym, ap, ap₂, _∙_}
 use mathlib.Core.List.{List}
 use Prim.Native.Nat.{ℕ, suc, _+_, _-_, _≤_, _<_}
 use native.Mathlib.Omega.{arith}
+use native.Mathlib.Decide.{decLe}
 use lib.ListN.{length, getD}
-use Rattle.rows.specs.Rows.{Row, depth, lastRow}
+use Rattle.rows.specs.Rows.{at, Row, depth, lastRow}
 use Rattle.rows.specs.Forest.{Forest, nil, cons, size, beside, forestAt, below}
 use Rattle.rows.specs.Embedding.{SameLabel}
 use Rattle.rows.proofs.Depths.{after-shallow, last-fits, inside-ends}
 use Rattle.rows.proofs.Flat.{beside-nil, beside-assoc}
 use Rattle.rows.proofs.Windows.{at-step, at-end, window-at, size-below}
-use Rattle.matching.specs.declared.corners.Pass.{Pass}
-use Rattle.matching.specs.declared.corners.Pass.the-variants as pass
 use Rattle.matching.specs.Asked.{chain}
 use Rattle.matching.specs.Placing.{HeldIn}
 use Rattle.matching.specs.Room.{Written, sameLabel, recipeOf}
-use Rattle.matching.specs.Engine.{Ready, Begins, Ends, Sought, Passed, treeAt, cornerOf, withTree}
+use Rattle.matching.specs.Path.{logBytes, Told, Kept}
+use Rattle.matching.specs.Engine.{Ready, Begins, Ends, Sought, Found, Through, Passed, treeAt, cornerOf, withTree}
 use Rattle.matching.proofs.CornerRow.{corner-nothing, corner-join}
 use Rattle.matching.proofs.TreeJoins.{corner-of-fits}
 use Rattle.matching.proofs.Passes.{none-more, found-more}
+use Rattle.matching.proofs.PathLaws.{path-same, told-same, kept-wide, kept-both, kept-none}
 
--- of the trees behind `first` rows those before row r + 1 are joined: the forest done, with what is left, is the whole, and no row
--- of it holds the row sought
-pub record Sofar (ws rl td tl asked rs : List ℕ) (base q goal first : ℕ) (us ss : List ℕ) (r : ℕ) : Type 0 where
+-- of the trees behind `first` rows those before row r + 1 are joined: the forest done, with what is left, is the whole, no row of it
+-- holds the row sought, and the log tells of them all
+pub record Sofar (ws rl td tl asked rs ls : List ℕ) (base q l first : ℕ) (us ss ms : List ℕ) (r : ℕ) : Type 0 where
   pub start : first ≤ r
-  pub none : 1 ≤ goal → HeldIn (SameLabel rl tl) (recipeOf ws rl) td goal (suc first) r → ⊥
+  pub none : 1 ≤ l → HeldIn (SameLabel rl tl) (recipeOf ws rl) td (chain asked 0) (suc first) r → ⊥
   pub low : r ≤ length td
   pub level : r < length td → depth td (suc r) ≤ depth td (suc first)
   pub rows : r + size (forestAt td r (depth td (suc first))) ≡ first + size (forestAt td first (depth td (suc first)))
   pub done : Forest ℕ
   pub whole : beside done (forestAt td r (depth td (suc first))) ≡ forestAt td first (depth td (suc first))
   pub ends : Ends ws rl asked rs base q (λ i. cornerOf ws rl tl done (chain asked i)) us ss
+  pub told : (y : ℕ) → first < y → y ≤ r → Told (SameLabel rl tl) (recipeOf ws rl) td asked l ms y
+  pub kept : Kept ls (suc first) r ms
+
+-- a pass over the forest behind `first` rows stands before row r + 1, or has found a row
+pub record Turn (ws rl td tl asked rs ls : List ℕ) (base q l first : ℕ) (us ss ms : List ℕ) (r : ℕ) : Type 0 where
+  pub so : r ≤ length td → Sofar ws rl td tl asked rs ls base q l first us ss ms r
+  pub found : length td < r → Found ws rl td tl asked ls l first (first + size (forestAt td first (depth td (suc first)))) (r - length td) us ss ms
 
 -- rs is the room rs₀ with no corners yet from base on
-module _ (ws rl td tl : List ℕ) (k : Ready ws rl td tl) (asked rs₀ : List ℕ) (base q goal first : ℕ) (b : Begins ws rl asked rs₀ base q (depth td (suc first)))
-    (h : first < length td) (g : Sought asked q goal) (rs : List ℕ) (w : Written rs₀ base q (λ i. 0) rs) where
+module _ (ws rl td tl : List ℕ) (k : Ready ws rl td tl) (asked rs₀ ls : List ℕ) (base q l first : ℕ) (b : Begins ws rl asked rs₀ base q (depth td (suc first)))
+    (h : first < length td) (g : Sought ws rl asked q l) (size-log : length ls ≡ logBytes) (rs : List ℕ) (w : Written rs₀ base q (λ i. 0) rs) where
   abbrev d : ℕ
   d = depth td (suc first)
 
-  abbrev So : List ℕ → List ℕ → ℕ → Type 0
-  So us ss r = Sofar ws rl td tl asked rs base q goal first us ss r
+  abbrev Fit : ℕ → ℕ → Type 0
+  Fit = SameLabel rl tl
 
-  abbrev ForestPass : Pass → List ℕ → List ℕ → Type 0
-  ForestPass p us ss =
-      Passed ws rl td tl asked rs₀ base q (λ i. cornerOf ws rl tl (forestAt td first d) (chain asked i)) goal first (first + size (forestAt td first d)) p us ss
+  abbrev end : ℕ
+  end = first + size (forestAt td first d)
 
-  pub sofar-none : So asked rs first
-  sofar-none =
+  abbrev So : List ℕ → List ℕ → List ℕ → ℕ → Type 0
+  So us ss ms r = Sofar ws rl td tl asked rs ls base q l first us ss ms r
+
+  abbrev ForestFound : ℕ → List ℕ → List ℕ → List ℕ → Type 0
+  ForestFound t us ss ms = Found ws rl td tl asked ls l first end t us ss ms
+
+  abbrev ForestPass : ℕ → List ℕ → List ℕ → List ℕ → Type 0
+  ForestPass r us ss ms = Passed ws rl td tl asked rs₀ ls base q (λ i. cornerOf ws rl tl (forestAt td first d) (chain asked i)) l first end r us ss ms
+
+  fits-end : end ≤ length td
+  fits-end = window-at td (k .listing .outline) first d (omega arith) (λ n. omega arith) .fits
+
+  abbrev At : List ℕ → List ℕ → List ℕ → ℕ → Type 0
+  At us ss ms r = Turn ws rl td tl asked rs ls base q l first us ss ms r
+
+  pub turn-none : At asked rs ls first
+  turn-none =
       record {
-        start = omega arith;
-        none = λ o i. omega (arith, i .1, i .2);
-        low = omega arith;
-        level = λ l. omega arith;
-        rows = refl;
-        done = nil;
-        whole = refl;
-        ends = record {
-          chains = b .chains;
-          keep = λ i l. refl;
-          words = w .size ∙ b .words;
-          before = λ j l. refl;
-          corners = λ i l. w .new i l ∙ sym (corner-nothing (sameLabel rl tl) (recipeOf ws rl) (chain asked i));
+        so = λ o. record {
+          start = omega arith;
+          none = λ o i. omega (arith, i .1, i .2);
+          low = omega arith;
+          level = λ n. omega arith;
+          rows = refl;
+          done = nil;
+          whole = refl;
+          ends = record {
+            chains = b .chains;
+            keep = λ i n. refl;
+            words = w .size ∙ b .words;
+            before = λ j n. refl;
+            corners = λ i n. w .new i n ∙ sym (corner-nothing (sameLabel rl tl) (recipeOf ws rl) (chain asked i));
+          };
+          told = λ y a c. absurd (omega arith);
+          kept = kept-none ls (suc first) first size-log;
         };
+        found = λ o. absurd (omega arith);
       }
 
-  module _ (us ss : List ℕ) (r : ℕ) (s : So us ss r) where
-    pub sofar-fits : (i : ℕ) → i < q → getD ss (base + i) 0 ≤ length (recipeOf ws rl)
-    sofar-fits i l = omega (arith, s .ends .corners i l, corner-of-fits ws rl td tl k (s .done) (chain asked i) (b .chains .rows i l .1))
+  module _ (us ss ms : List ℕ) (r : ℕ) (t : At us ss ms r) where
+    module _ (low : r ≤ length td) where
+      s : So us ss ms r
+      s = t .so low
 
-    pub sofar-all : (r < length td → depth td (suc r) < d) → ForestPass (pass.Through r) us ss
-    sofar-all e =
-        let n = at-end td r d e in
-        let f : s .done ≡ forestAt td first d = sym (beside-nil (s .done)) ∙ ap (beside (s .done)) (sym n) ∙ s .whole in
-        let z : r ≡ first + size (forestAt td first d) = omega (arith, s .rows, ap size n) in (
-          z,
+      pub so-fits : (i : ℕ) → i < q → getD ss (base + i) 0 ≤ length (recipeOf ws rl)
+      so-fits i n = omega (arith, s .ends .corners i n, corner-of-fits ws rl td tl k (s .done) (chain asked i) (b .chains .rows i n .1))
+
+      all : (r < length td → depth td (suc r) < d) → ForestPass r us ss ms
+      all e =
+          let n = at-end td r d e in
+          let f : s .done ≡ forestAt td first d = sym (beside-nil (s .done)) ∙ ap (beside (s .done)) (sym n) ∙ s .whole in
+          let z : r ≡ end = omega (arith, s .rows, ap size n) in
           record {
-            chains = s .ends .chains;
-            keep = s .ends .keep;
-            words = s .ends .words;
-            before = λ j l. s .ends .before j l ∙ w .before j l;
-            corners = λ i l. s .ends .corners i l ∙ ap (λ (g : Forest ℕ). cornerOf ws rl tl g (chain asked i)) f;
-          },
-          λ o i. s .none o (rw z i),
-        )
-
-    pub sofar-sought : Sought us q goal
-    sofar-sought = (g .0, λ o. g .1 o ∙ sym (s .ends .keep 0 (g .0)))
-
-    module _ (l : r < length td) (o : d ≤ depth td (suc r)) where
-      same-depth : depth td (suc r) ≡ d
-      same-depth = omega (arith, s .level l)
-
-      row : Row td (suc r)
-      row = omega arith
-
-      pub sofar-begins : Begins ws rl us ss base q (depth td (suc r))
-      sofar-begins = record { chains = s .ends .chains; words = s .ends .words; room = rw same-depth (b .room) }
-
-      step : forestAt td r d ≡ cons (suc r) (below td (suc r)) (forestAt td (lastRow td (suc r)) d)
-      step = at-step td r d l same-depth ∙ ap (λ (f : Forest ℕ). cons (suc r) f (forestAt td (lastRow td (suc r)) d)) (ap (λ (e : ℕ). forestAt td (suc r) (suc e)) (sym same-depth))
-
-      abbrev TreePass : Pass → List ℕ → List ℕ → Type 0
-      TreePass p vs ts =
-          Passed ws rl td tl us ss base q (λ i. withTree ws rl td tl r (chain us i) (getD ss (base + i) 0)) goal r (lastRow td (suc r)) p vs ts
-
-      goal-row : 1 ≤ goal → Row (recipeOf ws rl) goal
-      goal-row o = rw (g .1 o) (b .chains .rows 0 (g .0))
-
-      rest : lastRow td (suc r) + size (forestAt td (lastRow td (suc r)) d) ≡ first + size (forestAt td first d)
-      rest = omega (arith, s .rows, ap size step, size-below td (k .listing .outline) (suc r) row)
-
-      -- the row sought is found in the next tree, ..
-      pub sofar-found : (t : ℕ) (vs ts : List ℕ) → TreePass (pass.Found t) vs ts → ForestPass (pass.Found t) vs ts
-      sofar-found t vs ts p =
-          let o = p .0 in (
-            o,
-            found-more ws rl td tl k goal (goal-row o) first r (lastRow td (suc r)) (s .start) (s .none o) t (first + size (forestAt td first d)) (omega (arith, rest))
-                (window-at td (k .listing .outline) first d (omega arith) (λ n. omega arith) .fits) (inside-ends td (suc r) t row (p .1 .low) (p .1 .high)) (p .1),
-            p .2,
-            p .3,
-          )
-
-      -- .. or that tree joins
-      pub sofar-one : (end : ℕ) (vs ts : List ℕ) → TreePass (pass.Through end) vs ts → So vs ts end
-      sofar-one end vs ts p =
-          let e = p .1 in
-          rw (p .0)
-          record {
-            start = omega (arith, s .start);
-            none = λ o. none-more ws rl td tl k goal (goal-row o) first r (lastRow td (suc r)) (s .start) (s .none o) (p .2 o);
-            low = last-fits td (suc r) row;
-            level = λ n. omega (arith, after-shallow td (suc r) row, same-depth);
-            rows = rest;
-            done = beside (s .done) (treeAt td r);
-            whole = beside-assoc (s .done) (treeAt td r) (forestAt td (lastRow td (suc r)) d) ∙ ap (beside (s .done)) (sym step) ∙ s .whole;
-            ends = record {
-              chains = e .chains;
-              keep = λ i n. e .keep i n ∙ s .ends .keep i n;
-              words = e .words;
-              before = λ j n. e .before j n ∙ s .ends .before j n;
-              corners = λ i n.
-                  e .corners i n
-                  ∙ ap₂ (λ (x a : ℕ). withTree ws rl td tl r x a) (s .ends .keep i n) (s .ends .corners i n)
-                  ∙ sym (corner-join (sameLabel rl tl) (recipeOf ws rl) (k .outline) (chain asked i) (s .done) (treeAt td r) (b .chains .rows i n));
-            };
+            found = λ o. absurd (omega arith);
+            through = λ o. (
+              z,
+              record {
+                ends = record {
+                  chains = s .ends .chains;
+                  keep = s .ends .keep;
+                  words = s .ends .words;
+                  before = λ j n. s .ends .before j n ∙ w .before j n;
+                  corners = λ i n. s .ends .corners i n ∙ ap (λ (g : Forest ℕ). cornerOf ws rl tl g (chain asked i)) f;
+                };
+                none = λ o i. s .none o (rw z i);
+                told = λ y a c. s .told y a (omega arith);
+                kept = rw z at (s .kept);
+              },
+            );
           }
+
+      kept-path : (i : ℕ) → i < l → chain us i ≡ chain asked i
+      kept-path i o = s .ends .keep i (omega (arith, g .few))
+
+      pub so-sought : Sought ws rl us q l
+      so-sought = record { some = g .some; few = g .few; low = g .low; path = path-same (recipeOf ws rl) asked us l kept-path (g .path) }
+
+      module _ (n : r < length td) (o : d ≤ depth td (suc r)) where
+        same-depth : depth td (suc r) ≡ d
+        same-depth = omega (arith, s .level n)
+
+        row : Row td (suc r)
+        row = omega arith
+
+        abbrev last : ℕ
+        last = lastRow td (suc r)
+
+        pub so-begins : Begins ws rl us ss base q (depth td (suc r))
+        so-begins = record { chains = s .ends .chains; words = s .ends .words; room = rw same-depth (b .room) }
+
+        step : forestAt td r d ≡ cons (suc r) (below td (suc r)) (forestAt td last d)
+        step = at-step td r d n same-depth ∙ ap (λ (f : Forest ℕ). cons (suc r) f (forestAt td last d)) (ap (λ (e : ℕ). forestAt td (suc r) (suc e)) (sym same-depth))
+
+        goal-row : 1 ≤ l → Row (recipeOf ws rl) (chain asked 0)
+        goal-row o = g .path .rows 0 o
+
+        rest : last + size (forestAt td last d) ≡ end
+        rest = omega (arith, s .rows, ap size step, size-below td (k .listing .outline) (suc r) row)
+
+        -- the next tree joins, or the row sought is found in it
+        module _ (e : ℕ) (vs ts os : List ℕ) (p : Passed ws rl td tl us ss ms base q (λ i. withTree ws rl td tl r (chain us i) (getD ss (base + i) 0)) l r last e vs ts os) where
+          next-found : length td < e → ForestFound (e - length td) vs ts os
+          next-found x =
+              let f = p .found x in
+              let j = inside-ends td (suc r) (e - length td) row (f .found .low) (f .found .high) in
+              record {
+                some = f .some;
+                found = found-more ws rl td tl k (chain asked 0) (goal-row (f .some)) first r last (s .start) (s .none (f .some)) (e - length td) end (omega (arith, rest)) fits-end j
+                    (rw (kept-path 0 (f .some)) at (f .found));
+                words = f .words;
+                logged = record {
+                  keep = λ i m. f .logged .keep i m ∙ kept-path i m;
+                  told = λ y a c. told-same Fit (recipeOf ws rl) td asked us l os y kept-path (f .logged .told y a c);
+                  kept = kept-both ls (suc first) (lastRow td (e - length td)) ms os
+                      (kept-wide ls (suc first) r (suc first) (lastRow td (e - length td)) ms (omega arith) (omega (arith, f .found .low)) (s .kept))
+                      (kept-wide ms (suc r) (lastRow td (e - length td)) (suc first) (lastRow td (e - length td)) os (omega (arith, s .start)) (omega arith) (f .logged .kept));
+                };
+              }
+
+          next-so : e ≤ length td → So vs ts os e
+          next-so x =
+              let y = p .through x in
+              let v = y .1 in
+              let c = v .ends in
+              rw (y .0)
+              record {
+                start = omega (arith, s .start);
+                none = λ o. none-more ws rl td tl k (chain asked 0) (goal-row o) first r last (s .start) (s .none o) (rw (kept-path 0 o) at (v .none o));
+                low = last-fits td (suc r) row;
+                level = λ n. omega (arith, after-shallow td (suc r) row, same-depth);
+                rows = rest;
+                done = beside (s .done) (treeAt td r);
+                whole = beside-assoc (s .done) (treeAt td r) (forestAt td last d) ∙ ap (beside (s .done)) (sym step) ∙ s .whole;
+                ends = record {
+                  chains = c .chains;
+                  keep = λ i n. c .keep i n ∙ s .ends .keep i n;
+                  words = c .words;
+                  before = λ j n. c .before j n ∙ s .ends .before j n;
+                  corners = λ i n.
+                      c .corners i n
+                      ∙ ap₂ (λ (x a : ℕ). withTree ws rl td tl r x a) (s .ends .keep i n) (s .ends .corners i n)
+                      ∙ sym (corner-join (sameLabel rl tl) (recipeOf ws rl) (k .outline) (chain asked i) (s .done) (treeAt td r) (b .chains .rows i n));
+                };
+                told = λ y a c. told-next v y a c (decLe y r);
+                kept = kept-both ls (suc first) last ms os (kept-wide ls (suc first) r (suc first) last ms (omega arith) (omega arith) (s .kept))
+                    (kept-wide ms (suc r) last (suc first) last os (omega (arith, s .start)) (omega arith) (v .kept));
+              }
+            where
+              told-next : Through ws rl td tl us ss ms base q (λ i. withTree ws rl td tl r (chain us i) (getD ss (base + i) 0)) l r last vs ts os
+                  → (y : ℕ) → first < y → y ≤ last → Dec (y ≤ r) → Told Fit (recipeOf ws rl) td asked l os y
+              told-next v y a c (yes i) = λ j o m. rw (v .kept .stays y (λ x z. omega arith)) (s .told y a i j o m)
+              told-next v y a c (no i) = told-same Fit (recipeOf ws rl) td asked us l os y kept-path (v .told y (omega arith) c)
+
+          pub turn-one : At vs ts os e
+          turn-one = record { so = next-so; found = next-found }
+
+          pub turn-less : length td - e < length td - r
+          turn-less = go (decLe e (length td))
+            where
+              go : Dec (e ≤ length td) → length td - e < length td - r
+              go (yes x) = omega (arith, p .through x .0)
+              go (no x) = omega arith
+
+    -- the pass ends behind the last tree, or with the row found
+    pub turn-end : (r < length td → depth td (suc r) < d) → ForestPass r us ss ms
+    turn-end e = go (decLe r (length td))
+      where
+        go : Dec (r ≤ length td) → ForestPass r us ss ms
+        go (yes o) = all o e
+        go (no o) = record { through = λ x. absurd (omega arith); found = λ x. t .found x }

@@ -45,7 +45,7 @@ place-child ds (suc z) r e =
     back-one ds (depth ds (suc (suc z))) (suc z) refl ∙ ap suc (rw (lt-ltb (depth ds (suc z)) (depth ds (suc (suc z))) (omega arith), countBack))
 
 -- its parent is the row before it
-parent-child : (ds : List ℕ) (x : ℕ) → Row ds x → depth ds (suc x) ≡ suc (depth ds x) → parent ds (suc x) ≡ x
+pub parent-child : (ds : List ℕ) (x : ℕ) → Row ds x → depth ds (suc x) ≡ suc (depth ds x) → parent ds (suc x) ≡ x
 parent-child ds zero r e = absurd (omega arith)
 parent-child ds (suc z) r e = rw (lt-ltb (depth ds (suc z)) (depth ds (suc (suc z))) (omega arith), lastShallower)
 
@@ -100,7 +100,7 @@ right-deep ds w r o = go (next-of ds w r)
 
 -- a right sibling has the same parent, and the next place
 module _ (ds : List ℕ) (x : ℕ) (r : Row ds x) (e : depth ds (suc (lastRow ds x)) ≡ depth ds x) where
-  parent-next : parent ds (suc (lastRow ds x)) ≡ parent ds x
+  pub parent-next : parent ds (suc (lastRow ds x)) ≡ parent ds x
   parent-next = go x r e
     where
       go : (x : ℕ) → Row ds x → depth ds (suc (lastRow ds x)) ≡ depth ds x → parent ds (suc (lastRow ds x)) ≡ parent ds x

@@ -2,6 +2,7 @@
 pub mod Alone
 pub mod AnswerLaws
 pub mod AskedLaws
+pub mod Asking
 pub mod Best
 pub mod CornerLaws
 pub mod CornerRow
@@ -19,9 +20,12 @@ pub mod LeftLeaf
 pub mod Level
 pub mod Lies
 pub mod Linking
+pub mod LogLaws
+pub mod Marks
 pub mod Offers
 pub mod OnlyRoot
 pub mod Passes
+pub mod PathLaws
 pub mod PlaceRows
 pub mod Placing
 pub mod Refusals
@@ -31,6 +35,7 @@ pub mod Seeking
 pub mod Siblings
 pub mod Sides
 pub mod Standing
+pub mod Sweeps
 pub mod TreeJoins
 pub mod TreePass
 pub mod TreeRow

@@ -1,38 +1,32 @@
--- A recipe with one root is found where that root is. Assumes nothing.
+-- The pass over the whole listing: a recipe with one root is found where that root is. Assumes nothing.
 use mathlib.Core.Path.{_≡_, refl, sym, ap, _∙_}
-use mathlib.Core.Bool.{Bool}
 use mathlib.Core.List.{List}
-use Prim.Native.Nat.{ℕ, _+_, _≤_}
+use mathlib.Core.Logic.{_↔_}
+use Prim.Native.Nat.{ℕ, _+_, _-_, _≤_, _<_}
 use native.Mathlib.Omega.{arith}
-use native.Mathlib.Decide.{decLe, ℕ-discrete}
-use lib.Dec.{eqb}
-use lib.ListN.{length}
-use borrow.Author.Tests.{eq-eqb, ne-eqb}
-use Rattle.rows.specs.Rows.{Row, Outline, depth, lastRow, counted}
-use Rattle.rows.specs.Forest.{size, forest}
+use native.Mathlib.Decide.{decLe}
+use lib.ListN.{length, getD}
+use Rattle.rows.specs.Rows.{Row, Outline, depth, descendants, lastRow}
+use Rattle.rows.specs.Forest.{Forest, size, forestAt, forest}
 use Rattle.rows.specs.Embedding.{SameLabel}
 use Rattle.rows.proofs.Depths.{inside-deeper}
 use Rattle.rows.proofs.Windows.{stands-forest, size-forest}
 use Rattle.matching.specs.Family.{rightSibling}
+use Rattle.matching.specs.Asked.{chain}
 use Rattle.matching.specs.EarliestClose.{Holds}
 use Rattle.matching.specs.Placing.{HeldIn, FirstIn}
 use Rattle.matching.specs.Shape.{word}
-use Rattle.matching.specs.Room.{recipeOf}
-use Rattle.matching.specs.Engine.{Ready, cornerOf}
+use Rattle.matching.specs.Path.{logBytes}
+use Rattle.matching.specs.Room.{recipeOf, roomWords}
+use Rattle.matching.specs.Engine.{Ready, Begins, Sought, Passed, Known, cornerOf}
+use Rattle.matching.proofs.Alone.{askAlone, alone-chain, begins-alone, forest-top}
+use Rattle.matching.proofs.Asking.{inner-row}
 use Rattle.matching.proofs.Held.{held-iff}
 use Rattle.matching.proofs.Level.{Next, next, last, next-of}
 use Rattle.matching.proofs.Passes.{level-lies}
 use Rattle.matching.proofs.TreeJoins.{corner-of-fits}
 
--- a row is sought at the top just where row 1 has no right sibling, and then it is row 1
-pub only-one : (n g : ℕ) → g ≡ counted (eqb n 0) 0 → 1 ≤ g → (g ≡ 1) × (n ≡ 0)
-only-one n g e o = go (ℕ-discrete n 0)
-  where
-    go : Dec (n ≡ 0) → (g ≡ 1) × (n ≡ 0)
-    go (yes z) = (e ∙ ap (λ (b : Bool). counted b 0) (eq-eqb n 0 z), z)
-    go (no z) = absurd (omega (arith, e ∙ ap (λ (b : Bool). counted b 0) (ne-eqb n 0 z)))
-
--- then no other row is a root
+-- row 1 has no right sibling: no other row is a root
 only-row : (rd : List ℕ) → Outline rd → rightSibling rd 1 ≡ 0 → (w : ℕ) → Row rd w → depth rd w ≡ 0 → w ≡ 1
 only-row rd k e w r d = go (next-of rd 1 (omega arith)) (decLe w 1) (decLe w (lastRow rd 1))
   where
@@ -43,7 +37,7 @@ only-row rd k e w r d = go (next-of rd 1 (omega arith)) (decLe w 1) (decLe w (la
     go (last s f) (no i) (no j) = absurd (omega (arith, f (omega arith), k .first (omega arith)))
 
 -- a listing row holds it: the corner of the whole listing is row 1
-pub only-corner : (ws rl td tl : List ℕ) (k : Ready ws rl td tl) → 1 ≤ length (recipeOf ws rl) → word 1 ws 1 ≡ 0
+only-corner : (ws rl td tl : List ℕ) (k : Ready ws rl td tl) → 1 ≤ length (recipeOf ws rl) → rightSibling (recipeOf ws rl) 1 ≡ 0
     → (t : ℕ) → FirstIn td (Holds (SameLabel rl tl) (recipeOf ws rl) td 1) 1 (length td) t → 1 ≡ cornerOf ws rl tl (forest td) 1
 only-corner ws rl td tl k one e t f =
     let rd = recipeOf ws rl in
@@ -55,4 +49,66 @@ only-corner ws rl td tl k one e t f =
     let l = (level-lies ws rl td tl k 1 r (forest td) w refl) .1 i in
     let o = corner-of-fits ws rl td tl k (forest td) 1 one in
     let d : depth rd w ≡ 0 = sym (k .shape .depths w o) ∙ l .1 ∙ k .shape .depths 1 one ∙ k .outline .first r in
-    sym (only-row rd (k .outline) (sym (k .shape .rights 1 one) ∙ e) w (l .0, o) d)
+    sym (only-row rd (k .outline) e w (l .0, o) d)
+
+-- row 1 alone is asked, and l rows are sought: that row, where it is the only root and has rows below it, or none
+module _ {ws rl td tl : List ℕ} (k : Ready ws rl td tl) (one : 1 ≤ length (recipeOf ws rl)) (xs : List ℕ) (size-asked : length xs ≡ 513) {l : ℕ}
+    (rows : (l ≤ 1) × ((1 ≤ l) ↔ ((word 1 ws 1 ≡ 0) × (word 2 ws 1 ≡ 1 → ⊥)))) where
+  abbrev rd : List ℕ
+  rd = recipeOf ws rl
+
+  abbrev asked : List ℕ
+  asked = askAlone xs 1 size-asked (omega arith)
+
+  first : chain asked 0 ≡ 1
+  first = alone-chain xs 1 size-asked (omega arith)
+
+  row : Row rd 1
+  row = (omega arith, one)
+
+  inner : 1 ≤ l → 1 ≤ descendants rd 1
+  inner o = inner-row rd (k .outline) 1 row (λ e. rows .1 .0 o .1 (k .shape .leaves 1 one ∙ e))
+
+  only : 1 ≤ l → rightSibling rd 1 ≡ 0
+  only o = sym (k .shape .rights 1 one) ∙ rows .1 .0 o .0
+
+  pub first-sought : Sought ws rl asked 1 l
+  first-sought =
+      record {
+        some = omega arith;
+        few = rows .0;
+        low = omega (arith, rows .0);
+        path = record {
+          rows = λ i h. let e : i ≡ 0 = omega (arith, rows .0) in rw (e, first) row;
+          inner = λ i h. let e : i ≡ 0 = omega (arith, rows .0) in rw (e, first) (inner (omega arith));
+          down = λ i h. absurd (omega (arith, rows .0));
+        };
+      }
+
+  pub first-begins : {rs : List ℕ} → length rs ≡ roomWords → (d : ℕ) → Begins ws rl asked rs 0 1 d
+  first-begins n d = begins-alone xs 1 size-asked (omega arith) ws rl _ d (k .shape .few) row n
+
+  -- what the pass says of the whole listing
+  module _ (n : 0 < length td) {rs ls us ss ms : List ℕ} {r : ℕ}
+      (p : Passed ws rl td tl asked rs ls 0 1 (λ i. cornerOf ws rl tl (forestAt td 0 (depth td 1)) (chain asked i)) l 0 (0 + size (forestAt td 0 (depth td 1))) r us ss ms) where
+    abbrev Sizes : Type 0
+    Sizes = (length us ≡ 513) × (length ss ≡ roomWords) × (length ms ≡ logBytes)
+
+    all : forestAt td 0 (depth td 1) ≡ forest td
+    all = forest-top td (k .listing .outline) n
+
+    pub first-through : r ≤ length td → (getD ss 0 0 ≡ cornerOf ws rl tl (forest td) 1) × Sizes
+    first-through o =
+        let t = p .through o .1 in (
+          t .ends .corners 0 (omega arith)
+              ∙ ap (cornerOf ws rl tl (forestAt td 0 (depth td 1))) first
+              ∙ ap (λ (g : Forest ℕ). cornerOf ws rl tl g 1) all,
+          (t .ends .chains .size, t .ends .words, t .kept .size),
+        )
+
+    pub first-found : length td < r → (1 ≡ cornerOf ws rl tl (forest td) 1) × Known ws rl td tl (r - length td) × Sizes
+    first-found o =
+        let g = p .found o in
+        let last : 0 + size (forestAt td 0 (depth td 1)) ≡ length td = omega (arith, ap size all, size-forest td (k .listing .outline)) in
+        let h = rw (first, last) at (g .found) in
+        (only-corner ws rl td tl k one (only (g .some)) _ h, λ i. h, (g .words .0 .size, g .words .1, g .logged .kept .size))

@@ -64,11 +64,7 @@ module _ (ws rl td tl : List ℕ) (k : Ready ws rl td tl) (v : ℕ) (r : Row (re
     found-below t f = enter td (k .listing .outline) (Holds Fit rd td v) (suc first) last (omega arith) (omega arith) ends t f
 
     module _ (w : ℕ) (q : w ≡ cornerOf ws rl tl (treeAt td first) v) where
-      -- the tree's corner is not on its level: no row of the tree holds it
-      pub none-here : (OnLevel w → ⊥) → HeldIn Fit rd td v (suc first) last → ⊥
-      none-here n i = n ((level-lies (treeAt td first) w q) .1 ((held-tree Fit rd td (k .outline) (k .listing .outline) v r (suc first) row) .0 i))
-
-      -- the tree's corner is, and no row below the first one holds it: the first one does
+      -- the tree's corner is on its level, and no row below the first one holds it: the first one does
       pub found-here : (HeldIn Fit rd td v (suc (suc first)) last → ⊥) → OnLevel w → FirstIn td (Holds Fit rd td v) (suc first) last (suc first)
       found-here none o =
           here td (k .listing .outline) (Holds Fit rd td v) (suc first) last (omega arith) (omega arith) ends (λ y a b p. none (y, a, b, p))

@@ -16,10 +16,13 @@ use Rattle.matching.specs.EarliestClose.{Holds, Allowed, Earliest}
 use Rattle.matching.specs.Placing.{Placed, barred, lowest, highest, Closed, FirstIn}
 use Rattle.matching.proofs.Family.{parent-before, left-before, Parent, ParentView, root, child, parent-view, LeftView, first, next, left-view}
 
--- a write for a later row leaves what stands at the rows before
+-- a write for row i + 1 leaves what stands at the other rows, so at all before it
+pub at-other : (m : List ℕ) (i t u : ℕ) → (u ≡ suc i → ⊥) → at (set m i t) u ≡ at m u
+at-other m i t zero h = refl
+at-other m i t (suc j) h = getD-set-other m i j t 0 (λ e. h (ap suc e))
+
 at-kept : (m : List ℕ) (i t u : ℕ) → u ≤ i → at m u ≡ at (set m i t) u
-at-kept m i t zero h = refl
-at-kept m i t (suc j) h = sym (getD-set-other m i j t 0 (λ e. omega arith))
+at-kept m i t u h = sym (at-other m i t u (λ e. omega arith))
 
 module _ (Fit : ℕ → ℕ → Type 0) (rd td : List ℕ) where
   -- what row v may have for its image rests on the images of the rows before it alone
@@ -88,7 +91,7 @@ module _ (Fit : ℕ → ℕ → Type 0) (rd td : List ℕ) (kr : Outline rd) (kt
       go (child p) = last-fits td (at m (parent rd (suc n))) (parent-row p)
 
   -- it begins behind the parent's image
-  behind-parent : at m (parent rd (suc n)) < lowest rd td m (suc n)
+  pub behind-parent : at m (parent rd (suc n)) < lowest rd td m (suc n)
   behind-parent = go (left-view rd kr (suc n) row) (parent-view rd kr (suc n) row)
     where
       go : LeftView rd (suc n) → ParentView rd (suc n) → at m (parent rd (suc n)) < lowest rd td m (suc n)

@@ -1,15 +1,14 @@
--- The first row to close with a label, found by one scan: the first row that has it, then the first below that one, and so on. Assumes nothing.
-use mathlib.Core.Path.{_≡_, refl, sym, ap, _∙_}
+-- The first row to close of those that obey P, as those with a label do, found by one scan: the first of them, then the first below that one, and
+-- so on. Assumes nothing.
+use mathlib.Core.Path.{_≡_, refl, sym, ap}
 use mathlib.Core.Bool.{Bool, true, false, true≢false}
 use mathlib.Core.List.{List}
 use mathlib.Core.Logic.{_↔_}
 use Prim.Native.Nat.{ℕ, zero, suc, _≤_, _<_}
 use native.Mathlib.Omega.{arith}
 use native.Mathlib.Decide.{decLe}
-use lib.Dec.{eqb}
 use lib.ListN.{length}
-use borrow.Author.Tests.{eqb-true, eq-eqb}
-use Rattle.rows.specs.Rows.{at, Row, Outline, depth, lastRow, closing}
+use Rattle.rows.specs.Rows.{Row, Outline, depth, lastRow, closing}
 use Rattle.rows.specs.Forest.{nil, below}
 use Rattle.rows.specs.Embedding.{done}
 use Rattle.rows.proofs.Depths.{last-fits, inside-deeper, after-shallow}
@@ -21,8 +20,8 @@ use Rattle.matching.specs.Placing.{FirstIn, latest}
 use Rattle.matching.proofs.Holds.{holds-iff}
 use Rattle.matching.proofs.LeftLeaf.{descent-on}
 
--- of the rows behind `from` rows, up to row r, the scan has come upon row h last, or upon none (0): h has the label, the rows after it
--- are below it and have not, and those before it that have close later
+-- of the rows behind `from` rows, up to row r, the scan has come upon row h last, or upon none (0): h obeys P, the rows after it
+-- are below it and do not, and those before it that do close later
 pub data Scanned (ds : List ℕ) (P : ℕ → Type 0) (from r : ℕ) : ℕ → Type 0 where
   none : ((y : ℕ) → from < y → y ≤ r → P y → ⊥) → Scanned ds P from r 0
   upon : (h : ℕ) → from < h → h ≤ r → r ≤ lastRow ds h → P h → ((y : ℕ) → h < y → y ≤ r → P y → ⊥)
@@ -32,7 +31,7 @@ module _ (ds : List ℕ) (k : Outline ds) (P : ℕ → Type 0) (from : ℕ) wher
   pub scanned-none : Scanned ds P from from 0
   scanned-none = none (λ y a b p. omega arith)
 
-  -- the next row has the label, or has it not; it is below the row that the scan came upon
+  -- the next row obeys P, or does not; it is below the row that the scan came upon
   module _ (r : ℕ) (low : from ≤ r) (l : r < length ds) where
     below-last : (h : ℕ) → from < h → h ≤ r → r ≤ lastRow ds h → depth ds h < depth ds (suc r) → suc r ≤ lastRow ds h
     below-last h a b c d = go (decLe (suc r) (lastRow ds h))
@@ -66,6 +65,22 @@ module _ (ds : List ℕ) (k : Outline ds) (P : ℕ → Type 0) (from : ℕ) wher
         go y u v w (yes i) = clean y u i w
         go y u v w (no i) = let e : y ≡ suc r = omega arith in m (rw e at w)
 
+  -- one more row is scanned, by a test that tells whether P holds of it
+  pub scanned-latest : (r : ℕ) → from ≤ r → r < length ds → (h : ℕ) → ((1 ≤ h) × (depth ds (suc r) ≤ depth ds h) → ⊥) → (test : Bool) → (test ≡ true) ↔ P (suc r)
+      → Scanned ds P from r h → Scanned ds P from (suc r) (latest test r h)
+  scanned-latest r low l h past test d s = go test d
+    where
+      deeper : 1 ≤ h → depth ds h < depth ds (suc r)
+      deeper o = less-or (decLe (depth ds (suc r)) (depth ds h))
+        where
+          less-or : Dec (depth ds (suc r) ≤ depth ds h) → depth ds h < depth ds (suc r)
+          less-or (yes i) = absurd (past (o, i))
+          less-or (no i) = omega arith
+
+      go : (t : Bool) → (t ≡ true) ↔ P (suc r) → Scanned ds P from (suc r) (latest t r h)
+      go true d = scanned-hit r low l h deeper s (d .0 refl)
+      go false d = scanned-miss r low l h deeper s (λ p. true≢false (sym (d .1 p)))
+
   pub scanned-fits : (r h : ℕ) → Scanned ds P from r h → h ≤ r
   scanned-fits r _ (none n) = omega arith
   scanned-fits r _ (upon h a b c q clean first) = b
@@ -96,22 +111,6 @@ module _ (ds : List ℕ) (k : Outline ds) (P : ℕ → Type 0) (from : ℕ) wher
       go y u v w (same o) d = omega (arith, ap (closing ds) o)
       go y u v w (more o) (yes i) = absurd (clean y o i w)
       go y u v w (more o) (no i) = omega (arith, ((behind-window ds k h y row (omega arith)) .1 (omega (arith, ends))) .2)
-
--- one more row is scanned for a label
-pub scanned-latest : (ds ls : List ℕ) (k : Outline ds) (name from r : ℕ) → from ≤ r → r < length ds → (h : ℕ) → ((1 ≤ h) × (depth ds (suc r) ≤ depth ds h) → ⊥)
-    → Scanned ds (λ t. name ≡ at ls t) from r h → Scanned ds (λ t. name ≡ at ls t) from (suc r) (latest (eqb name (at ls (suc r))) r h)
-scanned-latest ds ls k name from r low l h past s = go (eqb name (at ls (suc r))) refl
-  where
-    deeper : 1 ≤ h → depth ds h < depth ds (suc r)
-    deeper o = less-or (decLe (depth ds (suc r)) (depth ds h))
-      where
-        less-or : Dec (depth ds (suc r) ≤ depth ds h) → depth ds h < depth ds (suc r)
-        less-or (yes i) = absurd (past (o, i))
-        less-or (no i) = omega arith
-
-    go : (b : Bool) → eqb name (at ls (suc r)) ≡ b → Scanned ds (λ t. name ≡ at ls t) from (suc r) (latest b r h)
-    go true e = scanned-hit ds k (λ t. name ≡ at ls t) from r low l h deeper s (eqb-true name (at ls (suc r)) e)
-    go false e = scanned-miss ds k (λ t. name ≡ at ls t) from r low l h deeper s (λ p. true≢false (sym (eq-eqb name (at ls (suc r)) p) ∙ e))
 
 -- a recipe row with no row below it is held by the rows that fit it
 module _ (Fit : ℕ → ℕ → Type 0) (rd td : List ℕ) (kr : Outline rd) (kt : Outline td) (v : ℕ) (r : Row rd v) (leaf : leftLeaf rd v ≡ v) where

@@ -103,7 +103,7 @@ module _ (ws rl td tl : List ℕ) (k : Ready ws rl td tl) where
     pub level-room : base + q ≤ roomWords
     level-room =
         let e : 64 - depth td (suc first) ≡ suc (63 - depth td (suc first)) = omega (arith, k .listing .shallow (suc first) (omega arith)) in
-        omega (arith, b .room, ap (roomFor q) e)
+        omega (arith, b .room, ap (roomFor (length rd) q) e)
 
   module _ (asked rs : List ℕ) (base q first : ℕ) (b : Begins ws rl asked rs base q (depth td (suc first))) (h : first < length td)
       (fits : (i : ℕ) → i < q → getD rs (base + i) 0 ≤ length rd) where
@@ -190,8 +190,8 @@ module _ (ws rl td tl : List ℕ) (k : Ready ws rl td tl) where
               room = omega (
                 arith,
                 b .room,
-                ap (roomFor q) e,
-                room-more z (min 256 (q + q)) (64 - depth td (suc (suc first))) (omega (arith, x .most, z-few, k .shape .few)),
+                ap (roomFor (length rd) q) e,
+                room-more (length rd) z (min (length rd) (q + q)) (64 - depth td (suc (suc first))) (omega (arith, x .most, z-few)),
               );
             }
 
@@ -199,7 +199,7 @@ module _ (ws rl td tl : List ℕ) (k : Ready ws rl td tl) where
         z-room =
             let e : 64 - depth td (suc (suc first)) ≡ suc (63 - depth td (suc (suc first))) =
             omega (arith, k .listing .shallow (suc (suc first)) (omega (arith, rows-more))) in
-            omega (arith, begins-below .room, ap (roomFor z) e)
+            omega (arith, begins-below .room, ap (roomFor (length rd) z) e)
 
         abbrev below-corner : ℕ → ℕ
         below-corner i = cornerOf ws rl tl (forestAt td (suc first) (depth td (suc (suc first)))) (chain us i)

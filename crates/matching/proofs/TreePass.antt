@@ -1,111 +1,189 @@
 -- A pass over a tree of the listing ends as it should, whether it goes through or finds the row sought. Assumes nothing.
-use mathlib.Core.Path.{_≡_, refl, sym, ap, _∙_}
-use mathlib.Core.Bool.{Bool, true, false, true≢false}
+use mathlib.Core.Path.{_≡_, sym, ap, _∙_}
 use mathlib.Core.List.{List}
 use mathlib.Core.Logic.{_↔_}
-use Prim.Native.Nat.{ℕ, suc, _+_, _≤_, _<_}
+use Prim.Native.Nat.{ℕ, suc, _+_, _-_, _≤_, _<_}
 use native.Mathlib.Omega.{arith}
-use native.Mathlib.Decide.{decLe}
+use native.Mathlib.Decide.{decLe, ℕ-discrete}
 use lib.ListN.{length, getD}
 use Rattle.rows.specs.Rows.{at, Row, depth, descendants, lastRow}
 use Rattle.rows.specs.Forest.{size, forestAt}
 use Rattle.rows.specs.Embedding.{SameLabel}
-use Rattle.matching.specs.declared.corners.Pass.{Pass}
-use Rattle.matching.specs.declared.corners.Pass.the-variants as pass
-use Rattle.matching.specs.Shape.{word}
-use Rattle.matching.specs.Asked.{chain, Extends}
-use Rattle.matching.specs.Placing.{HeldIn}
-use Rattle.matching.specs.Room.{recipeOf, Written, closed, joined, alone, joinedAlone}
-use Rattle.matching.specs.Engine.{Ready, Begins, Sought, Passed, treeAt, cornerOf, withTree}
-use Rattle.matching.proofs.TreeJoins.{corner-of-fits, below-last, alone-tree, leaf-ends, tree-corner, tree-ends}
-use Rattle.matching.proofs.Passes.{found-below, none-here, found-here}
+use Rattle.rows.proofs.Depths.{last-fits}
+use Rattle.matching.specs.Asked.{chain, Keep, Extends}
+use Rattle.matching.specs.Room.{recipeOf, Written, closed, joined, joinedAlone}
+use Rattle.matching.specs.Path.{logBytes, Within, Told, Put, Kept, Level, FirstLevel}
+use Rattle.matching.specs.Engine.{Ready, Begins, Sought, Found, Through, Passed, treeAt, cornerOf, withTree}
+use Rattle.matching.proofs.AskedLaws.{asked-fewer}
+use Rattle.matching.proofs.Held.{held-tree}
+use Rattle.matching.proofs.TreeJoins.{corner-of-fits, below-last, leaf-ends, tree-corner, tree-ends}
+use Rattle.matching.proofs.Passes.{level-lies, found-below, found-here}
+use Rattle.matching.proofs.PathLaws.{path-same, path-down, told-same, kept-wide, kept-both, kept-one, leaf-without}
 
-module _ (ws rl td tl : List ℕ) (k : Ready ws rl td tl) (asked rs : List ℕ) (base q goal first : ℕ) (b : Begins ws rl asked rs base q (depth td (suc first)))
-    (h : first < length td) (s : Sought asked q goal) (fits : (i : ℕ) → i < q → getD rs (base + i) 0 ≤ length (recipeOf ws rl)) where
-  abbrev TreePass : Pass → List ℕ → List ℕ → Type 0
-  TreePass p us ss =
-      Passed ws rl td tl asked rs base q (λ i. withTree ws rl td tl first (chain asked i) (getD rs (base + i) 0)) goal first (lastRow td (suc first)) p us ss
+module _ (ws rl td tl : List ℕ) (k : Ready ws rl td tl) (asked rs ls : List ℕ) (base q l first : ℕ) (b : Begins ws rl asked rs base q (depth td (suc first)))
+    (h : first < length td) (s : Sought ws rl asked q l) (n : length ls ≡ logBytes) (fits : (i : ℕ) → i < q → getD rs (base + i) 0 ≤ length (recipeOf ws rl)) where
+  abbrev rd : List ℕ
+  rd = recipeOf ws rl
 
-  -- a row sought is a row of the recipe
-  pub goal-row : 1 ≤ goal → Row (recipeOf ws rl) goal
-  goal-row o = rw (s .1 o) (b .chains .rows 0 (s .0))
+  abbrev Fit : ℕ → ℕ → Type 0
+  Fit = SameLabel rl tl
 
-  pub goal-fits : goal ≤ length (recipeOf ws rl)
-  goal-fits = go (decLe 1 goal)
-    where
-      go : Dec (1 ≤ goal) → goal ≤ length (recipeOf ws rl)
-      go (yes o) = goal-row o .1
-      go (no o) = omega arith
+  abbrev last : ℕ
+  last = lastRow td (suc first)
 
-  -- r says whether the corner w is on the level of the row sought
-  abbrev Says : Bool → ℕ → Type 0
-  Says r w = (r ≡ true) ↔ ((1 ≤ goal) × (1 ≤ w) × (word 3 ws w ≡ word 3 ws goal))
+  abbrev TreePass : ℕ → List ℕ → List ℕ → List ℕ → Type 0
+  TreePass r us ss ms =
+      Passed ws rl td tl asked rs ls base q (λ i. withTree ws rl td tl first (chain asked i) (getD rs (base + i) 0)) l first last r us ss ms
 
-  module _ (w : ℕ) (r : Bool) (y : Says r w) (e : 1 ≤ goal → w ≡ cornerOf ws rl tl (treeAt td first) goal) where
-    none-tree : r ≡ false → 1 ≤ goal → HeldIn (SameLabel rl tl) (recipeOf ws rl) td goal (suc first) (lastRow td (suc first)) → ⊥
-    none-tree n o = none-here ws rl td tl k goal (goal-row o) first h w (e o) (λ l. true≢false (sym (y .1 (o, l .0, l .1)) ∙ n))
+  row : Row td (suc first)
+  row = omega arith
 
-    root-found : (us ss : List ℕ) → length us ≡ 513 → length ss ≡ length rs
-        → (1 ≤ goal → HeldIn (SameLabel rl tl) (recipeOf ws rl) td goal (suc (suc first)) (lastRow td (suc first)) → ⊥) → r ≡ true → TreePass (pass.Found (suc first)) us ss
-    root-found us ss i j none t =
-        let f = y .0 t in (f .0, found-here ws rl td tl k goal (goal-row (f .0)) first h w (e (f .0)) (none (f .0)) (f .1, f .2), i, j ∙ b .words)
+  -- the number of a tree's end, or of a row found, is no other's
+  passed-through : (r : ℕ) (us ss ms : List ℕ) → r ≡ last
+      → Through ws rl td tl asked rs ls base q (λ i. withTree ws rl td tl first (chain asked i) (getD rs (base + i) 0)) l first last us ss ms → TreePass r us ss ms
+  passed-through r us ss ms e t = record { through = λ o. (e, t); found = λ o. absurd (omega (arith, last-fits td (suc first) row)) }
 
-  -- a row with no row below it
-  module _ (leaf : descendants td (suc first) ≡ 0) (w : ℕ) where
-    alone-goal : w ≡ alone ws rl (at tl (suc first)) goal → w ≡ cornerOf ws rl tl (treeAt td first) goal
-    alone-goal e = e ∙ alone-tree ws rl td tl k asked rs base q first b h fits leaf goal goal-fits
+  passed-found : (t r : ℕ) (us ss ms : List ℕ) → r ≡ length td + t → Found ws rl td tl asked ls l first last t us ss ms → TreePass r us ss ms
+  passed-found t r us ss ms e f =
+      let m : r - length td ≡ t = omega arith in
+      record { through = λ o. absurd (omega (arith, f .found .low)); found = λ o. rw m f }
 
-    pub leaf-fits : w ≡ alone ws rl (at tl (suc first)) goal → w ≤ length (recipeOf ws rl)
-    leaf-fits e = omega (arith, alone-goal e, corner-of-fits ws rl td tl k (treeAt td first) goal goal-fits)
+  -- a row with no row below it includes no row of the path
+  module _ (leaf : descendants td (suc first) ≡ 0) where
+    without : (i : ℕ) → i < l → Within Fit rd td (chain asked i) (suc first) → ⊥
+    without i o = leaf-without Fit rd td (k .outline) (k .listing .outline) (chain asked i) (suc first) (s .path .rows i o) (s .path .inner i o) leaf
 
-    module _ (r : Bool) (y : Says r w) (e : w ≡ alone ws rl (at tl (suc first)) goal) where
-      pub leaf-found : r ≡ true → TreePass (pass.Found (suc first)) asked rs
-      leaf-found t = root-found w r y (λ o. alone-goal e) asked rs (b .chains .size) refl (λ o i. omega (arith, i .1, i .2)) t
+    leaf-told : (ms : List ℕ) → Put ls first 15 l ms → (y : ℕ) → first < y → y ≤ last → Told Fit rd td asked l ms y
+    leaf-told ms p y a c i m o =
+        let e : y ≡ suc first = omega arith in
+        rw (e, p .here (omega arith)) (λ w. absurd (omega (arith, s .low)), λ w. absurd (without i o w))
 
-      pub leaf-through : r ≡ false → (ss : List ℕ) → Written rs base q (joinedAlone ws rl (at tl (suc first)) asked rs base) ss → TreePass (pass.Through (suc first)) asked ss
-      leaf-through n ss v = (omega arith, leaf-ends ws rl td tl k asked rs base q first b h fits leaf ss v, none-tree w r y (λ o. alone-goal e) n)
+    pub leaf-through : (ms : List ℕ) → Put ls first 15 l ms → (ss : List ℕ) → Written rs base q (joinedAlone ws rl (at tl (suc first)) asked rs base) ss → TreePass (suc first) asked ss ms
+    leaf-through ms p ss v =
+        passed-through (suc first) asked ss ms (omega arith)
+        record {
+          ends = leaf-ends ws rl td tl k asked rs base q first b h fits leaf ss v;
+          none = λ o. without 0 o;
+          told = leaf-told ms p;
+          kept = kept-one ls first 15 l ms last (omega arith) p;
+        }
 
   -- a row with rows below it
   module _ (more : 1 ≤ descendants td (suc first)) (us : List ℕ) (z : ℕ) (x : Extends ws asked rs base q q us z) where
-    abbrev pub BelowPass : Pass → List ℕ → List ℕ → Type 0
-    BelowPass p vs ss =
-        Passed ws rl td tl us rs (base + q) z (λ i. cornerOf ws rl tl (forestAt td (suc first) (depth td (suc (suc first)))) (chain us i)) goal (suc first)
-        (suc first + size (forestAt td (suc first) (depth td (suc (suc first))))) p vs ss
+    abbrev pub belowEnd : ℕ
+    belowEnd = suc first + size (forestAt td (suc first) (depth td (suc (suc first))))
 
-    last-row : suc first + size (forestAt td (suc first) (depth td (suc (suc first)))) ≡ lastRow td (suc first)
+    abbrev value : ℕ → ℕ
+    value i = cornerOf ws rl tl (forestAt td (suc first) (depth td (suc (suc first)))) (chain us i)
+
+    abbrev pub BelowPass : ℕ → List ℕ → List ℕ → List ℕ → Type 0
+    BelowPass r vs ss ms = Passed ws rl td tl us rs ls (base + q) z value l (suc first) belowEnd r vs ss ms
+
+    abbrev pub BelowThrough : List ℕ → List ℕ → List ℕ → Type 0
+    BelowThrough vs ss ms = Through ws rl td tl us rs ls (base + q) z value l (suc first) belowEnd vs ss ms
+
+    last-row : belowEnd ≡ last
     last-row = below-last td (k .listing .outline) first h more
 
-    pub sought-below : Sought us z goal
-    sought-below = (omega (arith, x .least, s .0), λ o. s .1 o ∙ sym (x .keep 0 (s .0)))
+    kept-path : Keep asked us l
+    kept-path i o = x .keep i (omega (arith, s .few))
 
-    pub below-found : (t : ℕ) (vs ss : List ℕ) → BelowPass (pass.Found t) vs ss → TreePass (pass.Found t) vs ss
-    below-found t vs ss p = (p .0, found-below ws rl td tl k goal (goal-row (p .0)) first h t (rw last-row at (p .1)), p .2, p .3)
+    pub sought-below : Sought ws rl us z l
+    sought-below = record { some = omega (arith, x .least, s .some); few = omega (arith, x .least, s .few); low = s .low; path = path-same rd asked us l kept-path (s .path) }
 
-    module _ (end : ℕ) (vs rs₁ : List ℕ) (p : BelowPass (pass.Through end) vs rs₁) (rs₂ : List ℕ)
+    pub below-found : (r : ℕ) (vs ss ms : List ℕ) → length td < r → BelowPass r vs ss ms → TreePass r vs ss ms
+    below-found r vs ss ms o p =
+        let f = p .found o in
+        let g = rw (last-row, kept-path 0 (f .some)) at (f .found) in
+        passed-found (r - length td) r vs ss ms (omega arith)
+        record {
+          some = f .some;
+          found = found-below ws rl td tl k (chain asked 0) (s .path .rows 0 (f .some)) first h (r - length td) g;
+          words = f .words;
+          logged = record {
+            keep = λ i e. f .logged .keep i e ∙ kept-path i e;
+            told = λ y a c. told-same Fit rd td asked us l ms y kept-path (f .logged .told y a c);
+            kept = kept-wide ls (suc (suc first)) (lastRow td (r - length td)) (suc first) (lastRow td (r - length td)) ms (omega arith) (omega arith) (f .logged .kept);
+          };
+        }
+
+    module _ (vs rs₁ ms₁ : List ℕ) (p : BelowThrough vs rs₁ ms₁) (rs₂ : List ℕ)
         (v : Written rs₁ (base + q) z (closed ws rl (at tl (suc first)) vs rs₁ (base + q)) rs₂) where
-      abbrev w : ℕ
-      w = getD rs₂ (base + q) 0
+      kept-chains : Keep asked vs l
+      kept-chains i o = p .ends .keep i (omega (arith, x .least, s .few)) ∙ kept-path i o
 
-      root-corner : w ≡ cornerOf ws rl tl (treeAt td first) (chain vs 0)
-      root-corner =
-          let e : base + q + 0 ≡ base + q = omega arith in
-          rw e at (tree-corner ws rl td tl k asked rs base q first b h fits more us z x vs rs₁ (p .1) rs₂ v 0 (omega (arith, x .least, s .0)))
+      corner : (i : ℕ) → i < l → getD rs₂ (base + q + i) 0 ≡ cornerOf ws rl tl (treeAt td first) (chain asked i)
+      corner i o =
+          tree-corner ws rl td tl k asked rs base q first b h fits more us z x vs rs₁ (p .ends) rs₂ v i (omega (arith, x .least, s .few))
+          ∙ ap (cornerOf ws rl tl (treeAt td first)) (kept-chains i o)
 
-      corner-goal : 1 ≤ goal → w ≡ cornerOf ws rl tl (treeAt td first) goal
-      corner-goal o =
-          let n : 0 < z = omega (arith, x .least, s .0) in
-          root-corner
-          ∙ ap (cornerOf ws rl tl (treeAt td first)) (p .1 .keep 0 n ∙ x .keep 0 (s .0) ∙ sym (s .1 o))
+      -- a corner is on the level of its chain just where the tree includes that row
+      level-within : (i : ℕ) → i < l → Level ws vs rs₂ (base + q) i ↔ Within Fit rd td (chain asked i) (suc first)
+      level-within i o =
+          let r = s .path .rows i o in
+          let a = rw (sym (kept-chains i o)) at (level-lies ws rl td tl k (chain asked i) r (treeAt td first) (getD rs₂ (base + q + i) 0) (corner i o)) in
+          let c = held-tree Fit rd td (k .outline) (k .listing .outline) (chain asked i) r (suc first) row in
+          (λ e. c .1 (rw (kept-chains i o) at (a .0 e)), λ e. a .1 (rw (sym (kept-chains i o)) at (c .0 e)))
 
-      pub root-fits : w ≤ length (recipeOf ws rl)
-      root-fits =
-          let n : 0 < z = omega (arith, x .least, s .0) in
-          omega (arith, root-corner, corner-of-fits ws rl td tl k (treeAt td first) (chain vs 0) (p .1 .chains .rows 0 n .1))
+      pub below-fits : (i : ℕ) → i < l → (chain vs i ≤ 256) × (getD rs₂ (base + q + i) 0 ≤ 256)
+      below-fits i o =
+          let r = s .path .rows i o in
+          omega (arith, kept-chains i o, r, corner i o, corner-of-fits ws rl td tl k (treeAt td first) (chain asked i) (r .1), k .shape .few)
 
-      module _ (r : Bool) (y : Says r w) where
-        pub tree-found : r ≡ true → TreePass (pass.Found (suc first)) vs rs₂
-        tree-found t = root-found w r y corner-goal vs rs₂ (p .1 .chains .size) (v .size ∙ p .1 .words ∙ sym (b .words)) (λ o i. p .2 o (rw last-row i)) t
+      module _ (held : ℕ) (f : FirstLevel ws vs rs₂ (base + q) l held) (ms : List ℕ) (note : Put ms₁ first held l ms) where
+        -- where the tree includes a row of the path, it includes the first on its level, or that one stands before
+        within-held : (i : ℕ) → i < l → Within Fit rd td (chain asked i) (suc first) → held ≤ i
+        within-held i o w = go (decLe held i)
+          where
+            go : Dec (held ≤ i) → held ≤ i
+            go (yes e) = e
+            go (no e) = absurd (f .before i (omega arith) (level-within i o .1 w))
 
-        pub tree-through : r ≡ false → (ss : List ℕ) → Written rs₂ base q (joined ws rl vs rs₂ base q) ss → TreePass (pass.Through end) vs ss
-        tree-through n ss j =
-            (p .0 ∙ last-row, tree-ends ws rl td tl k asked rs base q first b h fits more us z x vs rs₁ (p .1) rs₂ v ss j, none-tree w r y corner-goal n)
+        here-told : Told Fit rd td asked l ms (suc first)
+        here-told i m o =
+            rw (note .here (omega arith)) (
+              λ e.
+                  let d : held < l = omega arith in
+                  path-down Fit rd td (k .outline) (k .listing .outline) asked l (s .path) held i (suc first) e o row (level-within held d .0 (f .level d)),
+              within-held i o,
+            )
+
+        all-told : (y : ℕ) → first < y → y ≤ last → Told Fit rd td asked l ms y
+        all-told y a c = go (ℕ-discrete y (suc first))
+          where
+            go : Dec (y ≡ suc first) → Told Fit rd td asked l ms y
+            go (yes e) = rw e here-told
+            go (no e) = λ i m o. rw (note .others y e) (told-same Fit rd td asked us l ms₁ y kept-path (p .told y (omega arith) (rw last-row c)) i m o)
+
+        all-kept : Kept ls (suc first) last ms
+        all-kept =
+            kept-both ls (suc first) last ms₁ ms (rw last-row at (kept-wide ls (suc (suc first)) belowEnd (suc first) belowEnd ms₁ (omega arith) (omega arith) (p .kept)))
+            (kept-one ms₁ first held l ms last (omega arith) note)
+
+        pub tree-found : held ≡ 0 → 1 ≤ l → (r : ℕ) → r ≡ length td + suc first → TreePass r vs rs₂ ms
+        tree-found e o r m =
+            let d : held < l = omega arith in
+            let w = level-within 0 o .0 (rw e at (f .level d)) in
+            passed-found (suc first) r vs rs₂ ms m
+            record {
+              some = o;
+              found = found-here ws rl td tl k (chain asked 0) (s .path .rows 0 o) first h (getD rs₂ (base + q + 0) 0) (corner 0 o)
+                  (λ i. p .none o (rw (last-row, kept-path 0 o) i))
+                  (level-lies ws rl td tl k (chain asked 0) (s .path .rows 0 o) (treeAt td first) (getD rs₂ (base + q + 0) 0) (corner 0 o) .1
+                  (held-tree Fit rd td (k .outline) (k .listing .outline) (chain asked 0) (s .path .rows 0 o) (suc first) row .0 w));
+              words = (asked-fewer (length rd) vs l z (omega (arith, x .least, s .few)) (p .ends .chains), v .size ∙ p .ends .words);
+              logged = record { keep = kept-chains; told = λ y a c. all-told y (omega arith) c; kept = all-kept };
+            }
+
+        pub tree-through : (held ≡ 0 → 1 ≤ l → ⊥) → (r : ℕ) → r ≡ belowEnd → (ss : List ℕ) → Written rs₂ base q (joined ws rl vs rs₂ base q) ss → TreePass r vs ss ms
+        tree-through e r m ss j =
+            passed-through r vs ss ms (m ∙ last-row)
+            record {
+              ends = tree-ends ws rl td tl k asked rs base q first b h fits more us z x vs rs₁ (p .ends) rs₂ v ss j;
+              none = λ o w. e (zero-of (within-held 0 o w)) o;
+              told = all-told;
+              kept = all-kept;
+            }
+          where
+            zero-of : held ≤ 0 → held ≡ 0
+            zero-of i = omega arith

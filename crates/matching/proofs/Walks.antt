@@ -36,14 +36,8 @@ module _ {M : Type 1} (𝓤 : URA M) (H : Heap 𝓤) (A : Atoms 𝓤) (W : Given
       qed W (raw P ∷ raw (fact 𝓤 φ) ∷ raw (fact 𝓤 ψ) ∷ raw (fact 𝓤 χ) ∷ []) ∵
       move ! (1 ∷ []) $ heard ! φ (λ x. move ! (1 ∷ []) $ heard ! ψ (λ y. move ! (1 ∷ []) $ heard ! χ (λ z. by ! (k x y z))))
 
--- a goal P beside two facts, or three: they are shown, and P is left
+-- a goal P beside three facts: they are shown, and P is left
 module _ {M : Type 1} {𝓤 : URA M} {H : Heap 𝓤} {A : Atoms 𝓤} {K : Type 0} {W : Given 𝓤 H A} {Γ : List (Item 𝓤)} where
-  pub says-two : K → {φ ψ : Type 0} {P : SProp 𝓤} → φ → ψ → Step K W Γ (prop P) Γ (prop (sep 𝓤 P (sep 𝓤 (fact 𝓤 φ) (fact 𝓤 ψ))))
-  says-two t {φ} {ψ} {P} x y = step (λ s. record {
-    prf = via 𝓤 P (s .prf) (
-        qed W (raw P ∷ []) ∵ use0 W (raw (fact 𝓤 ψ)) (factI 𝓤 ψ (emp 𝓤) y) $ use0 W (raw (fact 𝓤 φ)) (factI 𝓤 φ (emp 𝓤) x) $ move ! (2 ∷ []) $ done !);
-  })
-
   pub says-three : K → {φ ψ χ : Type 0} {P : SProp 𝓤} → φ → ψ → χ → Step K W Γ (prop P) Γ (prop (sep 𝓤 P (sep 𝓤 (fact 𝓤 φ) (sep 𝓤 (fact 𝓤 ψ) (fact 𝓤 χ)))))
   says-three t {φ} {ψ} {χ} {P} x y z = step (λ s. record {
     prf = via 𝓤 P (s .prf) (

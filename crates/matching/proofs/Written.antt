@@ -3,7 +3,7 @@ use mathlib.Core.Path.{_≡_, refl, sym, ap, _∙_}
 use mathlib.Core.Bool.{true, false}
 use mathlib.Core.List.{List}
 use lib.Dec.{eqb}
-use Prim.Native.Nat.{ℕ, zero, suc, _+_, _≤_, _<_, min}
+use Prim.Native.Nat.{ℕ, zero, suc, _+_, _-_, _≤_, _<_, min}
 use native.Mathlib.Omega.{arith}
 use native.Mathlib.Decide.{decLt}
 use lib.ListN.{length, getD, set, length-set}
@@ -11,7 +11,7 @@ use lib.Seq.{getD-set-same, getD-set-other}
 use borrow.Author.Tests.{eq-eqb, ne-eqb}
 use Rattle.matching.specs.Shape.{word}
 use Rattle.matching.specs.Asked.{noted}
-use Rattle.matching.specs.Room.{Written, roomFor, following}
+use Rattle.matching.specs.Room.{roomWords, Written, roomFor, following}
 
 module _ (rs : List ℕ) (base : ℕ) (value : ℕ → ℕ) where
   pub written-none : Written rs base 0 value rs
@@ -32,16 +32,32 @@ module _ (rs : List ℕ) (base : ℕ) (value : ℕ → ℕ) where
           let q : j ≡ i = omega arith in
           rw q (getD-set-same ss (base + i) v 0 (omega (arith, w .size)) ∙ e)
 
--- a larger first level needs no less
-pub room-more : (q p n : ℕ) → q ≤ p → roomFor q n ≤ roomFor p n
-room-more q p zero h = omega arith
-room-more q p (suc n) h = omega (arith, room-more (min 256 (q + q)) (min 256 (p + p)) n (omega arith))
+-- a larger recipe and a larger first level need no less
+room-grows : (m p q r n : ℕ) → m ≤ p → q ≤ r → roomFor m q n ≤ roomFor p r n
+room-grows m p q r zero h l = omega arith
+room-grows m p q r (suc n) h l = omega (arith, room-grows m p (min m (q + q)) (min p (r + r)) n (omega arith) (omega arith))
+
+pub room-more : (m q p n : ℕ) → q ≤ p → roomFor m q n ≤ roomFor m p n
+room-more m q p n h = room-grows m m q p n (omega arith) h
+
+-- there is room for any path of a recipe of up to 228 rows, and for one row of any recipe
+pub room-small : (m q : ℕ) → m ≤ 228 → q ≤ m → roomFor m q 64 ≤ roomWords
+room-small m q h l = room-grows m 228 q 228 64 h (omega arith)
+
+pub room-one : (m q : ℕ) → m ≤ 256 → q ≤ 1 → roomFor m q 64 ≤ roomWords
+room-one m q h l = within (roomFor m q 64) (room-grows m 256 q 1 64 h l)
+  where
+    within : (n : ℕ) → n ≤ 14591 → n ≤ roomWords
+    within n o = omega arith
 
 -- nor do fewer levels need more
-pub room-levels : (q n m : ℕ) → n ≤ m → roomFor q n ≤ roomFor q m
-room-levels q zero m h = omega arith
-room-levels q (suc n) zero h = absurd (omega arith)
-room-levels q (suc n) (suc m) h = omega (arith, room-levels (min 256 (q + q)) n m (omega arith))
+pub room-levels : (m q n p : ℕ) → n ≤ p → roomFor m q n ≤ roomFor m q p
+room-levels m q zero p h = omega arith
+room-levels m q (suc n) zero h = absurd (omega arith)
+room-levels m q (suc n) (suc p) h = omega (arith, room-levels m (min m (q + q)) n p (omega arith))
+
+pub room-below : (m q n d w : ℕ) → roomFor m q n ≤ w → 0 + roomFor m q (n - d) ≤ w
+room-below m q n d w h = omega (arith, room-levels m q (n - d) n (omega arith))
 
 -- the corner on the chain after a, where there is no such chain, and where there is
 module _ (ws asked rs : List ℕ) (base a y : ℕ) (e : y ≡ word 1 ws a) where

@@ -3,6 +3,7 @@ use mathlib.Core.Path.{_≡_}
 use mathlib.Core.List.{List}
 use Prim.Native.Nat.{ℕ, suc, _+_, _-_, _≤_, _<_}
 use lib.ListN.{length, getD}
+use Rattle.rows.specs.Limits.{listingRows}
 use Rattle.rows.specs.Rows.{Outline, WellFormed}
 use Rattle.rows.specs.Forest.{Forest, nil, cons, below}
 use Rattle.rows.specs.Embedding.{SameLabel}
@@ -12,8 +13,7 @@ use Rattle.matching.specs.Shape.{Shape}
 use Rattle.matching.specs.Asked.{Asked, Keep, chain}
 use Rattle.matching.specs.EarliestClose.{Holds}
 use Rattle.matching.specs.Placing.{HeldIn, FirstIn}
-use Rattle.matching.specs.declared.corners.Pass.{Pass}
-use Rattle.matching.specs.declared.corners.Pass.the-variants as pass
+use Rattle.matching.specs.Path.{Path, Told, Kept, Logged}
 use Rattle.matching.specs.Room.{roomWords, roomFor, recipeOf, sameLabel}
 
 -- the shape and labels of a recipe, and the depths and labels of a listing, are whole
@@ -22,12 +22,13 @@ pub record Ready (ws rl td tl : List ℕ) : Type 0 where
   pub shape : Shape (recipeOf ws rl) ws
   pub listing : WellFormed td
   pub names : length tl ≡ length td
+  pub few : length td ≤ listingRows
 
 -- q chains are asked, and from base on there is room for them and for the levels below depth d
 pub record Begins (ws rl asked rs : List ℕ) (base q d : ℕ) : Type 0 where
   pub chains : Asked (length (recipeOf ws rl)) asked q
   pub words : length rs ≡ roomWords
-  pub room : base + roomFor q (64 - d) ≤ roomWords
+  pub room : base + roomFor (length (recipeOf ws rl)) q (64 - d) ≤ roomWords
 
 -- then the q words from base on are what `value` says, the chains asked and the room before base stayed
 pub record Ends (ws rl asked rs : List ℕ) (base q : ℕ) (value : ℕ → ℕ) (us ss : List ℕ) : Type 0 where
@@ -50,17 +51,32 @@ abbrev pub withTree : List ℕ → List ℕ → List ℕ → List ℕ → ℕ �
 withTree ws rl td tl first x a =
     joinRow (recipeOf ws rl) a (cornerOf ws rl tl (treeAt td first) x) (cornerOf ws rl tl (treeAt td first) (rightSibling (recipeOf ws rl) a))
 
--- some chains are asked, and no row is sought (0), or that of the first chain
-abbrev pub Sought : List ℕ → ℕ → ℕ → Type 0
-Sought asked q goal = (1 ≤ q) × (1 ≤ goal → goal ≡ chain asked 0)
+-- chains are asked, of which the first k, at most 15, are a path: its first row is sought; where k is 0, none is
+pub record Sought (ws rl asked : List ℕ) (q k : ℕ) : Type 0 where
+  pub some : 1 ≤ q
+  pub few : k ≤ q
+  pub low : k ≤ 15
+  pub path : Path (recipeOf ws rl) asked k
 
--- how a pass over the listing rows behind `first` rows, up to row `last`, ends: at the first to close that holds the row sought; or
--- behind row `last`, with the corners that `value` says, and none of these rows holds it
-abbrev pub Passed : List ℕ → List ℕ → List ℕ → List ℕ → List ℕ → List ℕ → ℕ → ℕ → (ℕ → ℕ) → ℕ → ℕ → ℕ → Pass → List ℕ → List ℕ → Type 0
-Passed ws rl td tl asked rs base q value goal first last (pass.Found t) us ss =
-    (1 ≤ goal) × FirstIn td (Holds (SameLabel rl tl) (recipeOf ws rl) td goal) (suc first) last t × (length us ≡ 513) × (length ss ≡ roomWords)
-Passed ws rl td tl asked rs base q value goal first last (pass.Through end) us ss =
-    (end ≡ last) × Ends ws rl asked rs base q value us ss × (1 ≤ goal → HeldIn (SameLabel rl tl) (recipeOf ws rl) td goal (suc first) last → ⊥)
+-- a pass over the listing rows behind `first` rows, up to row `last`, found row t: the first to close that holds the row sought
+pub record Found (ws rl td tl asked ls : List ℕ) (k first last t : ℕ) (us ss ms : List ℕ) : Type 0 where
+  pub some : 1 ≤ k
+  pub found : FirstIn td (Holds (SameLabel rl tl) (recipeOf ws rl) td (chain asked 0)) (suc first) last t
+  pub words : Asked (length (recipeOf ws rl)) us k × (length ss ≡ roomWords)
+  pub logged : Logged (SameLabel rl tl) (recipeOf ws rl) td asked k ls first t us ms
+
+-- or it went through, with the corners that `value` says: none of these rows holds the row sought, and the log tells of them all
+pub record Through (ws rl td tl asked rs ls : List ℕ) (base q : ℕ) (value : ℕ → ℕ) (k first last : ℕ) (us ss ms : List ℕ) : Type 0 where
+  pub ends : Ends ws rl asked rs base q value us ss
+  pub none : 1 ≤ k → HeldIn (SameLabel rl tl) (recipeOf ws rl) td (chain asked 0) (suc first) last → ⊥
+  pub told : (y : ℕ) → first < y → y ≤ last → Told (SameLabel rl tl) (recipeOf ws rl) td asked k ms y
+  pub kept : Kept ls (suc first) last ms
+
+-- how a pass ends, as one number: up to the listing's length it is how many rows stand before the end of a pass that went through;
+-- beyond it, how much beyond is the row found
+pub record Passed (ws rl td tl asked rs ls : List ℕ) (base q : ℕ) (value : ℕ → ℕ) (k first last r : ℕ) (us ss ms : List ℕ) : Type 0 where
+  pub through : r ≤ length td → (r ≡ last) × Through ws rl td tl asked rs ls base q value k first last us ss ms
+  pub found : length td < r → Found ws rl td tl asked ls k first last (r - length td) us ss ms
 
 -- t is the first listing row to close that holds recipe row 1, or 0 where that is not known
 abbrev pub Known : List ℕ → List ℕ → List ℕ → List ℕ → ℕ → Type 0

@@ -8,7 +8,9 @@ pub mod Judge
 pub mod Asked
 pub mod CornerRow
 pub mod Engine
+pub mod Images
 pub mod Linked
+pub mod Path
 pub mod Placing
 pub mod Room
 pub mod Shape

@@ -15,10 +15,11 @@ use Rattle.matching.specs.Asked.{chain, noted}
 abbrev pub roomWords : ℕ
 roomWords = 14592
 
--- how much n levels of depth need, of which the first keeps q corners: each next one at most twice as many, and at most 256
-abbrev pub roomFor : ℕ → ℕ → ℕ
-roomFor q zero = 0
-roomFor q (suc n) = q + roomFor (min 256 (q + q)) n
+-- how much n levels of depth need for a recipe of m rows, where the first keeps q corners: each next one at most twice as many, and
+-- at most m
+abbrev pub roomFor : ℕ → ℕ → ℕ → ℕ
+roomFor m q zero = 0
+roomFor m q (suc n) = q + roomFor m (min m (q + q)) n
 
 -- of the room rs, the q words from base on became what `value` says, and all others stayed: ss
 pub record Written (rs : List ℕ) (base q : ℕ) (value : ℕ → ℕ) (ss : List ℕ) : Type 0 where

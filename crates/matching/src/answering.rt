@@ -10,13 +10,13 @@ ghost use Rattle.rows.specs.Forest.{forest};
 ghost use Rattle.matching.specs.Answer.{Answers};
 ghost use Rattle.matching.specs.CornerRow.{place, widthAt, rowAt};
 ghost use Rattle.matching.specs.Refusals.{GoodTables};
+ghost use Rattle.matching.specs.Path.{logBytes};
 ghost use Rattle.matching.specs.Shape.{Shape, word};
 ghost use Rattle.matching.specs.Room.{recipeOf, roomWords};
 ghost use Rattle.matching.specs.Engine.{Ready, Known, cornerOf};
 use crate::Answer;
 use crate::Corner;
 use crate::Refusal;
-use crate::corners::Pass;
 use crate::corners::forest_corners;
 use crate::images::place_rows;
 use crate::joining::is_level;
@@ -27,14 +27,17 @@ use crate::shape::right_of;
 use crate::tables::Tables;
 use crate::tables::check_tables;
 
-// Row 1 where it is the only root, else 0.
-fn only_root(shape: &[u16; 1028]) -> u16
-    ensures { λ r. ⌜ r ≡ counted (eqb (word 1 (now (shape .entry)) 1) 0) 0 ⌝ }
+// How many rows the first pass seeks: row 1, where it is the only root and has rows below it; else none.
+fn sought_rows(shape: &[u16; 1028]) -> usize
+    ensures { λ r. ⌜ (r ≤ 1) × ((1 ≤ r) ↔ ((word 1 (now (shape .entry)) 1 ≡ 0) × (word 2 (now (shape .entry)) 1 ≡ 1 → ⊥))) ⌝ }
 {
-    if right_of(shape, 1) == 0 {
-        return 1;
+    if right_of(shape, 1) != 0 {
+        return 0;
     }
-    0
+    if leaf_of(shape, 1) == 1 {
+        return 0;
+    }
+    1
 }
 
 // The corner of the whole listing as one row of the recipe, 0 where nothing is found; and the image of row 1, 0 where the search
@@ -44,7 +47,7 @@ struct Top {
     image: usize,
 }
 
-// One pass over the listing. A recipe with one root is found when that root is.
+// One pass over the listing, in which row 1 alone is asked. A recipe that is one tree, of more than one row, is found when its root is.
 fn top_corner(
     depths: &[u16],
     names: &[u32],
@@ -52,11 +55,12 @@ fn top_corner(
     labels: &[u32],
     asked: &mut [u16; 513],
     room: &mut [u16; 14592],
+    log: &mut [u8; 2048],
 ) -> Top
     requires { ⌜ Ready (now shape) (now labels) (now depths) (now names) × (1 ≤ length (recipeOf (now shape) (now labels))) ⌝ }
-    requires { ⌜ (length (now asked) ≡ 513) × (length (now room) ≡ roomWords) ⌝ }
+    requires { ⌜ (length (now asked) ≡ 513) × (length (now room) ≡ roomWords) × (length (now log) ≡ logBytes) ⌝ }
     ensures { λ r. ⌜ (r .corner ≡ cornerOf (now (shape .entry)) (now (labels .entry)) (now (names .entry)) (forest (now (depths .entry))) 1) × Known (now (shape .entry)) (now (labels .entry)) (now (depths .entry)) (now (names .entry)) (r .image) ⌝ }
-    ensures { λ r. ⌜ (length (now (asked .exit)) ≡ 513) × (length (now (room .exit)) ≡ roomWords) ⌝ }
+    ensures { λ r. ⌜ (length (now (asked .exit)) ≡ 513) × (length (now (room .exit)) ≡ roomWords) × (length (now (log .exit)) ≡ logBytes) ⌝ }
 {
     if depths.len() == 0 {
         return Top {
@@ -66,17 +70,17 @@ fn top_corner(
     }
     asked[0] = 1;
     asked[257] = 0;
-    let goal = only_root(shape);
-    let pass = forest_corners(depths, names, shape, labels, asked, room, 0, 1, goal, 0);
-    match pass {
-        Pass::Found(row) => Top {
+    let k = sought_rows(shape);
+    let end = forest_corners(depths, names, shape, labels, asked, room, log, 0, 1, k, 0);
+    if depths.len() < end {
+        return Top {
             corner: 1,
-            image: row,
-        },
-        Pass::Through(_) => Top {
-            corner: room[0],
-            image: 0,
-        },
+            image: end - depths.len(),
+        };
+    }
+    Top {
+        corner: room[0],
+        image: 0,
     }
 }
 
@@ -153,7 +157,16 @@ fn answer_good(
     build(recipe, &mut shape);
     let mut asked = [0u16; 513];
     let mut room = [0u16; 14592];
-    let top = top_corner(depths, names, &shape, labels, &mut asked, &mut room);
+    let mut log = [0u8; 2048];
+    let top = top_corner(
+        depths,
+        names,
+        &shape,
+        labels,
+        &mut asked,
+        &mut room,
+        &mut log,
+    );
     let corner = corner_of(recipe, &shape, top.corner);
     if !is_whole(&shape, top.corner) {
         return Answer::Absent(corner);
@@ -166,6 +179,7 @@ fn answer_good(
         labels,
         &mut asked,
         &mut room,
+        &mut log,
         top.image,
         map,
     );

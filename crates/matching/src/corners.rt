@@ -8,6 +8,7 @@ ghost use Rattle.rows.specs.Rows.{depth, descendants, lastRow};
 ghost use Rattle.rows.specs.Forest.{size, forestAt};
 ghost use Rattle.matching.specs.Shape.{Shape, word};
 ghost use Rattle.matching.specs.Asked.{chain, noted};
+ghost use Rattle.matching.specs.Path.{logBytes, FirstLevel};
 ghost use Rattle.matching.specs.Engine.{Ready, Begins, Sought, Passed, cornerOf, withTree};
 ghost use Rattle.matching.specs.Room.{roomWords, recipeOf, following, Written, closed, joined, joinedAlone, Joins, JoinsAlone};
 use crate::asked::extend;
@@ -15,6 +16,7 @@ use crate::asked::wide;
 use crate::joining::close_row;
 use crate::joining::is_level;
 use crate::joining::join_row;
+use crate::log::write_log;
 use crate::shape::depth_of;
 use crate::shape::right_of;
 
@@ -131,26 +133,41 @@ pub(crate) fn has_rows(depths: &[u16], first: usize) -> bool
     depths[first] < depths[first + 1]
 }
 
-// How a pass over listing rows ends: at the first row to close that holds the row sought, or through all rows, with how many
-// stand before their end.
-pub(crate) enum Pass {
-    Found(usize),
-    Through(usize),
+// Of the corners from base on of the k chains asked first, the place of the first that stands on the level of its chain; k if none does.
+fn first_level(
+    shape: &[u16; 1028],
+    asked: &[u16; 513],
+    room: &[u16; 14592],
+    base: usize,
+    k: usize,
+) -> usize
+    requires { ⌜ (k ≤ 256) × (base + k ≤ roomWords) × (length (now room) ≡ roomWords) ⌝ }
+    requires { ⌜ ((i : ℕ) → i < k → (chain (now asked) i ≤ 256) × (getD (now room) (base + i) 0 ≤ 256)) ⌝ }
+    ensures { λ r. ⌜ FirstLevel (now (shape .entry)) (now (asked .entry)) (now (room .entry)) base k r ⌝ }
+{
+    let mut i = 0;
+    while i < k {
+        if is_level(shape, room[base + i], depth_of(shape, asked[i])) {
+            return i;
+        }
+        i += 1;
+    }
+    k
 }
 
-// Whether the corner w stands on the level of the row sought; never where no row is sought.
-fn is_found(shape: &[u16; 1028], goal: u16, w: u16) -> bool
-    requires { ⌜ (goal ≤ 256) × (w ≤ 256) ⌝ }
-    ensures { λ r. ⌜ (r ≡ true) ↔ ((1 ≤ goal) × (1 ≤ w) × (word 3 (now (shape .entry)) w ≡ word 3 (now (shape .entry)) goal)) ⌝ }
+// Whether the first of k rows is held, where `held` is the place of the first that is.
+fn is_found(held: usize, k: usize) -> bool
+    ensures { λ r. ⌜ (r ≡ true) ↔ ((held ≡ 0) × (1 ≤ k)) ⌝ }
 {
-    if goal == 0 {
-        return false;
+    if held == 0 {
+        return k != 0;
     }
-    is_level(shape, w, depth_of(shape, goal))
+    false
 }
 
 // Tree against forest: the tree whose first row stands behind `first` rows of the listing joins the q corners from base on, unless
-// one of its rows holds the row sought.
+// one of its rows holds the first of the k rows of the path. The log notes for each of its rows what its tree includes of the path.
+// Answers how many rows stand before the tree's end; or, beyond the listing's length, the row found.
 fn tree_corners(
     depths: &[u16],
     names: &[u32],
@@ -158,54 +175,53 @@ fn tree_corners(
     labels: &[u32],
     asked: &mut [u16; 513],
     room: &mut [u16; 14592],
+    log: &mut [u8; 2048],
     base: usize,
     q: usize,
-    goal: u16,
+    k: usize,
     first: usize,
-) -> Pass
-    requires { ⌜ Ready (now shape) (now labels) (now depths) (now names) × (first < length (now depths)) × Sought (now asked) q goal ⌝ }
-    requires { ⌜ Begins (now shape) (now labels) (now asked) (now room) base q (depth (now depths) (suc first)) ⌝ }
+) -> usize
+    requires { ⌜ Ready (now shape) (now labels) (now depths) (now names) × (first < length (now depths)) × Sought (now shape) (now labels) (now asked) q k ⌝ }
+    requires { ⌜ Begins (now shape) (now labels) (now asked) (now room) base q (depth (now depths) (suc first)) × (length (now log) ≡ logBytes) ⌝ }
     requires { ⌜ ((i : ℕ) → i < q → getD (now room) (base + i) 0 ≤ length (recipeOf (now shape) (now labels))) ⌝ }
-    ensures { λ r. ⌜ Passed (now (shape .entry)) (now (labels .entry)) (now (depths .entry)) (now (names .entry)) (now (asked .entry)) (now (room .entry)) base q
+    ensures { λ r. ⌜ Passed (now (shape .entry)) (now (labels .entry)) (now (depths .entry)) (now (names .entry)) (now (asked .entry)) (now (room .entry)) (now (log .entry)) base q
         (λ i. withTree (now (shape .entry)) (now (labels .entry)) (now (depths .entry)) (now (names .entry)) first (chain (now (asked .entry)) i) (getD (now (room .entry)) (base + i) 0))
-        goal first (lastRow (now (depths .entry)) (suc first)) r (now (asked .exit)) (now (room .exit)) ⌝ }
+        k first (lastRow (now (depths .entry)) (suc first)) r (now (asked .exit)) (now (room .exit)) (now (log .exit)) ⌝ }
 {
-    let name = names[first];
     if !has_rows(depths, first) {
-        if is_found(shape, goal, close_row(shape, labels, name, goal, 0)) {
-            return Pass::Found(first + 1);
-        }
-        join_leaf(shape, labels, name, asked, room, base, q);
-        return Pass::Through(first + 1);
+        write_log(log, first, 15, k);
+        join_leaf(shape, labels, names[first], asked, room, base, q);
+        return first + 1;
     }
     let z = extend(shape, asked, room, base, q);
-    let below = forest_corners(
+    let end = forest_corners(
         depths,
         names,
         shape,
         labels,
         asked,
         room,
+        log,
         base + q,
         z,
-        goal,
+        k,
         first + 1,
     );
-    match below {
-        Pass::Found(row) => Pass::Found(row),
-        Pass::Through(end) => {
-            close_asked(shape, labels, name, asked, room, base + q, z);
-            if is_found(shape, goal, room[base + q]) {
-                return Pass::Found(first + 1);
-            }
-            join_asked(shape, labels, asked, room, base, q, z);
-            Pass::Through(end)
-        }
+    if depths.len() < end {
+        return end;
     }
+    close_asked(shape, labels, names[first], asked, room, base + q, z);
+    let held = first_level(shape, asked, room, base + q, k);
+    write_log(log, first, held as u8, k);
+    if is_found(held, k) {
+        return depths.len() + first + 1;
+    }
+    join_asked(shape, labels, asked, room, base, q, z);
+    end
 }
 
 // Forest against forest: the corners from base on of the trees that stand side by side behind `first` rows of the listing, on
-// the q chains asked, unless one of their rows holds the row sought.
+// the q chains asked, unless one of their rows holds the first row of the path.
 pub(crate) fn forest_corners(
     depths: &[u16],
     names: &[u32],
@@ -213,33 +229,37 @@ pub(crate) fn forest_corners(
     labels: &[u32],
     asked: &mut [u16; 513],
     room: &mut [u16; 14592],
+    log: &mut [u8; 2048],
     base: usize,
     q: usize,
-    goal: u16,
+    k: usize,
     first: usize,
-) -> Pass
-    requires { ⌜ Ready (now shape) (now labels) (now depths) (now names) × (first < length (now depths)) × Sought (now asked) q goal ⌝ }
-    requires { ⌜ Begins (now shape) (now labels) (now asked) (now room) base q (depth (now depths) (suc first)) ⌝ }
-    ensures { λ r. ⌜ Passed (now (shape .entry)) (now (labels .entry)) (now (depths .entry)) (now (names .entry)) (now (asked .entry)) (now (room .entry)) base q
+) -> usize
+    requires { ⌜ Ready (now shape) (now labels) (now depths) (now names) × (first < length (now depths)) × Sought (now shape) (now labels) (now asked) q k ⌝ }
+    requires { ⌜ Begins (now shape) (now labels) (now asked) (now room) base q (depth (now depths) (suc first)) × (length (now log) ≡ logBytes) ⌝ }
+    ensures { λ r. ⌜ Passed (now (shape .entry)) (now (labels .entry)) (now (depths .entry)) (now (names .entry)) (now (asked .entry)) (now (room .entry)) (now (log .entry)) base q
         (λ i. cornerOf (now (shape .entry)) (now (labels .entry)) (now (names .entry)) (forestAt (now (depths .entry)) first (depth (now (depths .entry)) (suc first))) (chain (now (asked .entry)) i))
-        goal first (first + size (forestAt (now (depths .entry)) first (depth (now (depths .entry)) (suc first)))) r (now (asked .exit)) (now (room .exit)) ⌝ }
+        k first (first + size (forestAt (now (depths .entry)) first (depth (now (depths .entry)) (suc first)))) r (now (asked .exit)) (now (room .exit)) (now (log .exit)) ⌝ }
 {
     clear(room, base, q);
-    let top = depths[first];
     let mut at = first;
     while at < depths.len() {
-        if depths[at] < top {
-            return Pass::Through(at);
+        if depths[at] < depths[first] {
+            return at;
         }
-        let tree = tree_corners(depths, names, shape, labels, asked, room, base, q, goal, at);
-        match tree {
-            Pass::Found(row) => {
-                return Pass::Found(row);
-            }
-            Pass::Through(end) => {
-                at = end;
-            }
-        }
+        at = tree_corners(
+            depths,
+            names,
+            shape,
+            labels,
+            asked,
+            room,
+            log,
+            base,
+            q,
+            k,
+            at,
+        );
     }
-    Pass::Through(at)
+    at
 }

@@ -1,15 +1,23 @@
 // The map of earliest close: an image for each recipe row, in row order.
 ghost use mathlib.Core.Path.{_≡_};
-ghost use Prim.Native.Nat.{suc, _≤_};
-ghost use lib.ListN.{length, take, drop};
+ghost use Prim.Native.Nat.{_≤_, _-_};
+ghost use lib.ListN.{length, take, drop, set};
 ghost use Rattle.rows.specs.Limits.{listingRows};
 ghost use Rattle.rows.specs.Rows.{at, Row};
 ghost use Rattle.rows.specs.Embedding.{SameLabel, Included};
-ghost use Rattle.matching.specs.EarliestClose.{Holds, EarliestClose};
-ghost use Rattle.matching.specs.Placing.{barred, HeldIn, FirstIn};
+ghost use Rattle.matching.specs.Family.{leftSibling, parent};
+ghost use Rattle.matching.specs.EarliestClose.{EarliestClose};
+ghost use Rattle.matching.specs.Placing.{barred};
+ghost use Rattle.matching.specs.Path.{logBytes};
+ghost use Rattle.matching.specs.Images.{Cleared, Begun, Stage};
 ghost use Rattle.matching.specs.Room.{recipeOf, roomWords};
 ghost use Rattle.matching.specs.Engine.{Ready, Known};
 use crate::link::kin_of;
+use crate::path::ask_path;
+use crate::path::mark_path;
+use crate::seek::seek_label;
+use crate::seek::seek_logged;
+use crate::shape::leaf_of;
 use crate::window::seek_behind;
 
 // The image of recipe row v; 0 where there is none.
@@ -29,31 +37,97 @@ fn last_barred(depths: &[u16], map: &[u16], left: u16, parent: u16) -> usize
     rows::last_row_of(depths, rows::Opening(image_of(map, left) as usize)).0
 }
 
-// The image of recipe row v, whose window begins behind `from` rows: for row 1 the one that is known already, unless that is 0.
+// The rows of the recipe have neither images nor marks; slots behind them stay.
+fn clear_marks(recipe: &[u16], map: &mut [u16])
+    requires { ⌜ length (now recipe) ≤ length (now map) ⌝ }
+    ensures { λ r. ⌜ Cleared (now (recipe .entry)) (now (map .entry)) (now (map .exit)) ⌝ }
+{
+    let mut i = 0;
+    while i < recipe.len() {
+        map[i] = 0;
+        i += 1;
+    }
+}
+
+// The image of recipe row v, whose window begins behind `from` rows: a leaf's by its label, a marked row's by the log, any other's by a
+// pass, which leaves marks for the path below it.
 fn find_image(
     depths: &[u16],
     names: &[u32],
+    recipe: &[u16],
     shape: &[u16; 1028],
     labels: &[u32],
     asked: &mut [u16; 513],
     room: &mut [u16; 14592],
+    log: &mut [u8; 2048],
+    map: &mut [u16],
     v: u16,
     from: usize,
-    known: usize,
 ) -> usize
-    requires { ⌜ Ready (now shape) (now labels) (now depths) (now names) × Row (recipeOf (now shape) (now labels)) v ⌝ }
-    requires { ⌜ HeldIn (SameLabel (now labels) (now names)) (recipeOf (now shape) (now labels)) (now depths) v (suc from) (length (now depths)) ⌝ }
-    requires { ⌜ (v ≡ 1 → from ≡ 0) × Known (now shape) (now labels) (now depths) (now names) known ⌝ }
-    requires { ⌜ (length (now asked) ≡ 513) × (length (now room) ≡ roomWords) ⌝ }
-    ensures { λ r. ⌜ FirstIn (now (depths .entry)) (Holds (SameLabel (now (labels .entry)) (now (names .entry))) (recipeOf (now (shape .entry)) (now (labels .entry))) (now (depths .entry)) v) (suc from) (length (now (depths .entry))) r ⌝ }
-    ensures { λ r. ⌜ (length (now (asked .exit)) ≡ 513) × (length (now (room .exit)) ≡ roomWords) ⌝ }
+    requires { ⌜ Ready (now shape) (now labels) (now depths) (now names) × (recipeOf (now shape) (now labels) ≡ now recipe) × Row (now recipe) v ⌝ }
+    requires { ⌜ Stage (SameLabel (now labels) (now names)) (now recipe) (now depths) (now map) (now asked) (now room) (now log) (now map) (v - 1) ⌝ }
+    requires { ⌜ Included (SameLabel (now labels) (now names)) (now recipe) (now depths) × (from ≡ barred (now depths) (now map) (leftSibling (now recipe) v) (parent (now recipe) v)) × (length (now recipe) ≤ length (now map)) ⌝ }
+    ensures { λ r. ⌜ (r ≤ length (now (depths .entry))) × Stage (SameLabel (now (labels .entry)) (now (names .entry))) (now (recipe .entry)) (now (depths .entry)) (now (map .entry)) (now (asked .exit)) (now (room .exit)) (now (log .exit)) (set (now (map .exit)) (v - 1) r) v ⌝ }
+    ensures { λ r. ⌜ length (now (map .exit)) ≡ length (now (map .entry)) ⌝ }
 {
-    if v == 1 {
-        if known != 0 {
-            return known;
-        }
+    if leaf_of(shape, v) == v {
+        return seek_label(depths, names, labels[(v as usize) - 1], from);
     }
-    seek_behind(depths, from, names, shape, labels, asked, room, v)
+    let mark = image_of(map, v);
+    if mark != 0 {
+        return seek_logged(depths, log, mark, from);
+    }
+    let k = ask_path(recipe, shape, asked, v);
+    mark_path(recipe, asked, k, map);
+    seek_behind(depths, from, names, shape, labels, asked, room, log, k)
+}
+
+// Places recipe row v, where all rows before it have their images.
+fn place_row(
+    depths: &[u16],
+    names: &[u32],
+    recipe: &[u16],
+    shape: &[u16; 1028],
+    labels: &[u32],
+    asked: &mut [u16; 513],
+    room: &mut [u16; 14592],
+    log: &mut [u8; 2048],
+    map: &mut [u16],
+    v: u16,
+)
+    requires { ⌜ Ready (now shape) (now labels) (now depths) (now names) × (recipeOf (now shape) (now labels) ≡ now recipe) × Row (now recipe) v ⌝ }
+    requires { ⌜ Stage (SameLabel (now labels) (now names)) (now recipe) (now depths) (now map) (now asked) (now room) (now log) (now map) (v - 1) ⌝ }
+    requires { ⌜ Included (SameLabel (now labels) (now names)) (now recipe) (now depths) × (length (now recipe) ≤ length (now map)) ⌝ }
+    ensures { λ r. ⌜ Stage (SameLabel (now (labels .entry)) (now (names .entry))) (now (recipe .entry)) (now (depths .entry)) (now (map .entry)) (now (asked .exit)) (now (room .exit)) (now (log .exit)) (now (map .exit)) v ⌝ }
+{
+    let kin = kin_of(recipe, shape, v);
+    let from = last_barred(depths, map, kin.left, kin.parent);
+    let image = find_image(
+        depths,
+        names,
+        recipe,
+        shape,
+        labels,
+        asked,
+        room,
+        log,
+        map,
+        v,
+        from,
+    );
+    map[(v as usize) - 1] = image as u16;
+}
+
+// Places row 1 where its image is known already. Answers how many rows are placed.
+fn place_known(known: usize, map: &mut [u16]) -> usize
+    requires { ⌜ (known ≤ listingRows) × (1 ≤ length (now map)) ⌝ }
+    ensures { λ r. ⌜ Begun known (now (map .entry)) r (now (map .exit)) ⌝ }
+{
+    if known == 0 {
+        return 0;
+    }
+    map[0] = known as u16;
+    1
 }
 
 // Places all recipe rows: the first slots of the map become the map of earliest close, and later slots stay. The image of row 1
@@ -66,22 +140,32 @@ pub(crate) fn place_rows(
     labels: &[u32],
     asked: &mut [u16; 513],
     room: &mut [u16; 14592],
+    log: &mut [u8; 2048],
     known: usize,
     map: &mut [u16],
 )
     requires { ⌜ Ready (now shape) (now labels) (now depths) (now names) × (recipeOf (now shape) (now labels) ≡ now recipe) ⌝ }
-    requires { ⌜ (length (now depths) ≤ listingRows) × (length (now recipe) ≤ length (now map)) ⌝ }
+    requires { ⌜ (1 ≤ length (now recipe)) × (length (now recipe) ≤ length (now map)) ⌝ }
     requires { ⌜ Included (SameLabel (now labels) (now names)) (now recipe) (now depths) ⌝ }
-    requires { ⌜ (length (now asked) ≡ 513) × (length (now room) ≡ roomWords) × Known (now shape) (now labels) (now depths) (now names) known ⌝ }
+    requires { ⌜ (length (now asked) ≡ 513) × (length (now room) ≡ roomWords) × (length (now log) ≡ logBytes) × Known (now shape) (now labels) (now depths) (now names) known ⌝ }
     ensures { λ r. ⌜ EarliestClose (SameLabel (now (labels .entry)) (now (names .entry))) (now (recipe .entry)) (now (depths .entry)) (take (length (now (recipe .entry))) (now (map .exit))) ⌝ }
     ensures { λ r. ⌜ drop (length (now (recipe .entry))) (now (map .exit)) ≡ drop (length (now (recipe .entry))) (now (map .entry)) ⌝ }
 {
-    let mut n = 0;
+    clear_marks(recipe, map);
+    let mut n = place_known(known, map);
     while n < recipe.len() {
-        let v = (n + 1) as u16;
-        let kin = kin_of(recipe, shape, v);
-        let from = last_barred(depths, map, kin.left, kin.parent);
-        map[n] = find_image(depths, names, shape, labels, asked, room, v, from, known) as u16;
         n += 1;
+        place_row(
+            depths,
+            names,
+            recipe,
+            shape,
+            labels,
+            asked,
+            room,
+            log,
+            map,
+            n as u16,
+        );
     }
 }

@@ -7,6 +7,8 @@ mod joining;
 mod judging;
 mod leaves;
 mod link;
+mod log;
+mod path;
 mod seek;
 mod shape;
 mod tables;

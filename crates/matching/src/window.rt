@@ -2,12 +2,12 @@
 ghost use mathlib.Core.Path.{_≡_};
 ghost use Prim.Native.Nat.{suc};
 ghost use lib.ListN.{length};
-ghost use Rattle.rows.specs.Rows.{Row};
 ghost use Rattle.rows.specs.Embedding.{SameLabel};
-ghost use Rattle.matching.specs.EarliestClose.{Holds};
-ghost use Rattle.matching.specs.Placing.{HeldIn, FirstIn};
+ghost use Rattle.matching.specs.Placing.{HeldIn};
+ghost use Rattle.matching.specs.Asked.{chain};
+ghost use Rattle.matching.specs.Path.{logBytes, PathAsked};
 ghost use Rattle.matching.specs.Room.{recipeOf, roomWords};
-ghost use Rattle.matching.specs.Engine.{Ready};
+ghost use Rattle.matching.specs.Engine.{Ready, Found};
 ghost use Rattle.matching.specs.Window.{Whole};
 use crate::seek::seek;
 
@@ -29,7 +29,7 @@ fn behind<'a>(depths: &'a [u16], first: usize) -> Window<'a>
     }
 }
 
-// Of a window's rows, some of which hold recipe row v, the first of these to close.
+// Of a window's rows, some of which hold the first row of the path asked, the first of these to close.
 fn seek_in<'a>(
     window: Window<'a>,
     names: &[u32],
@@ -37,13 +37,13 @@ fn seek_in<'a>(
     labels: &[u32],
     asked: &mut [u16; 513],
     room: &mut [u16; 14592],
-    v: u16,
+    log: &mut [u8; 2048],
+    k: usize,
 ) -> usize
-    requires { ⌜ Ready (now shape) (now labels) (now (window .depths)) (now names) × Row (recipeOf (now shape) (now labels)) v ⌝ }
-    requires { ⌜ HeldIn (SameLabel (now labels) (now names)) (recipeOf (now shape) (now labels)) (now (window .depths)) v (suc (window .first)) (window .end) × Whole (now (window .depths)) (window .first) (window .end) ⌝ }
-    requires { ⌜ (length (now asked) ≡ 513) × (length (now room) ≡ roomWords) ⌝ }
-    ensures { λ r. ⌜ FirstIn (now (window .entry .depths)) (Holds (SameLabel (now (labels .entry)) (now (names .entry))) (recipeOf (now (shape .entry)) (now (labels .entry))) (now (window .entry .depths)) v) (suc (window .entry .first)) (window .entry .end) r ⌝ }
-    ensures { λ r. ⌜ (length (now (asked .exit)) ≡ 513) × (length (now (room .exit)) ≡ roomWords) ⌝ }
+    requires { ⌜ Ready (now shape) (now labels) (now (window .depths)) (now names) × PathAsked (recipeOf (now shape) (now labels)) (now asked) k ⌝ }
+    requires { ⌜ HeldIn (SameLabel (now labels) (now names)) (recipeOf (now shape) (now labels)) (now (window .depths)) (chain (now asked) 0) (suc (window .first)) (window .end) × Whole (now (window .depths)) (window .first) (window .end) ⌝ }
+    requires { ⌜ (length (now room) ≡ roomWords) × (length (now log) ≡ logBytes) ⌝ }
+    ensures { λ r. ⌜ Found (now (shape .entry)) (now (labels .entry)) (now (window .entry .depths)) (now (names .entry)) (now (asked .entry)) (now (log .entry)) k (window .entry .first) (window .entry .end) r (now (asked .exit)) (now (room .exit)) (now (log .exit)) ⌝ }
 {
     seek(
         window.depths,
@@ -54,12 +54,13 @@ fn seek_in<'a>(
         labels,
         asked,
         room,
-        v,
+        log,
+        k,
     )
 }
 
-// Of the rows behind `first` rows, some of which hold recipe row v, the first of these to close. Callers lend a slice and a
-// number; the window is made here.
+// Of the rows behind `first` rows, some of which hold the first row of the path asked, the first of these to close. Callers lend a
+// slice and a number; the window is made here.
 pub(crate) fn seek_behind(
     depths: &[u16],
     first: usize,
@@ -68,13 +69,22 @@ pub(crate) fn seek_behind(
     labels: &[u32],
     asked: &mut [u16; 513],
     room: &mut [u16; 14592],
-    v: u16,
+    log: &mut [u8; 2048],
+    k: usize,
 ) -> usize
-    requires { ⌜ Ready (now shape) (now labels) (now depths) (now names) × Row (recipeOf (now shape) (now labels)) v ⌝ }
-    requires { ⌜ HeldIn (SameLabel (now labels) (now names)) (recipeOf (now shape) (now labels)) (now depths) v (suc first) (length (now depths)) ⌝ }
-    requires { ⌜ (length (now asked) ≡ 513) × (length (now room) ≡ roomWords) ⌝ }
-    ensures { λ r. ⌜ FirstIn (now (depths .entry)) (Holds (SameLabel (now (labels .entry)) (now (names .entry))) (recipeOf (now (shape .entry)) (now (labels .entry))) (now (depths .entry)) v) (suc first) (length (now (depths .entry))) r ⌝ }
-    ensures { λ r. ⌜ (length (now (asked .exit)) ≡ 513) × (length (now (room .exit)) ≡ roomWords) ⌝ }
+    requires { ⌜ Ready (now shape) (now labels) (now depths) (now names) × PathAsked (recipeOf (now shape) (now labels)) (now asked) k ⌝ }
+    requires { ⌜ HeldIn (SameLabel (now labels) (now names)) (recipeOf (now shape) (now labels)) (now depths) (chain (now asked) 0) (suc first) (length (now depths)) ⌝ }
+    requires { ⌜ (length (now room) ≡ roomWords) × (length (now log) ≡ logBytes) ⌝ }
+    ensures { λ r. ⌜ Found (now (shape .entry)) (now (labels .entry)) (now (depths .entry)) (now (names .entry)) (now (asked .entry)) (now (log .entry)) k first (length (now (depths .entry))) r (now (asked .exit)) (now (room .exit)) (now (log .exit)) ⌝ }
 {
-    seek_in(behind(depths, first), names, shape, labels, asked, room, v)
+    seek_in(
+        behind(depths, first),
+        names,
+        shape,
+        labels,
+        asked,
+        room,
+        log,
+        k,
+    )
 }

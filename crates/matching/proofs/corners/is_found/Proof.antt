@@ -1,25 +1,18 @@
--- `matching::corners::is_found` meets its contract: the corner stands on the level of the row sought. Assumes nothing.
-use borrow.Author.Needs.{needs}
-use mathlib.Core.Path.{sym, _∙_}
-use mathlib.Core.Bool.{false≢true}
+-- `matching::corners::is_found` meets its contract: the first row is held, and there is one. Assumes nothing.
+use mathlib.Core.Path.{ap}
+use mathlib.Core.Bool.{not, false≢true}
 use native.Mathlib.Omega.{arith}
+use borrow.Author.Tests.{not-true, eqb-false, ne-eqb}
 use Rattle.matching.proofs.corners.is_found.Statement.{statement}
 use Rattle.matching.proofs.corners.is_found.Tie as tie
 
 returns : tie.Need-returns
-returns c = (λ e. absurd (false≢true e), λ h. absurd (omega (arith, c .if1 .taken, h .0)))
-
-depth-of-requires : tie.Need-depth-of-requires
-depth-of-requires c κs = search needs
-
-is-level-requires : tie.Need-is-level-requires
-is-level-requires c κs = search needs
+returns c =
+    let k = c .before .args .k in
+    (λ t. (c .if1 .taken, omega (arith, eqb-false k 0 (not-true _ t))), λ h. ap not (ne-eqb k 0 (λ e. omega (arith, h .1, e))))
 
 returns-2 : tie.Need-returns-2
-returns-2 c =
-    let e = c .before .depth-of .ensures in
-    let i = c .is-level .ensures in
-    (λ t. (omega (arith, c .before .before .if1 .left), i .0 t .0, i .0 t .1 ∙ e), λ h. i .1 (h .1, h .2 ∙ sym e))
+returns-2 c = (λ e. absurd (false≢true e), λ h. absurd (c .if1 .left (h .0)))
 
 pub is-found-spec : {M : Type 1} → statement M
-is-found-spec = tie.close (tie.spec returns depth-of-requires is-level-requires returns-2)
+is-found-spec = tie.close (tie.spec returns returns-2)

@@ -1,156 +1,140 @@
 -- `matching::images::place_rows` meets its contract: the map that is written is the map of earliest close. Assumes nothing.
-use borrow.Author.Needs.{needs}
 use mathlib.Core.Path.{_≡_, ap, _∙_}
-use Prim.Native.Nat.{ℕ, suc, _+_, _-_}
+use Prim.Native.Nat.{ℕ, _+_, _-_, _≤_}
 use native.Mathlib.Omega.{arith}
-use native.Mathlib.Numerals.{add-one}
-use lib.ListN.{length, set}
+use native.Mathlib.Decide.{decLe}
+use lib.ListN.{length}
 use Rattle.rows.specs.Embedding.{SameLabel}
-use Rattle.matching.specs.EarliestClose.{Holds}
-use Rattle.matching.specs.Placing.{HeldIn, FirstIn}
-use Rattle.matching.specs.Room.{roomWords}
+use Rattle.matching.specs.Images.{Stage}
 use Rattle.matching.proofs.EarliestClose.{placed-all}
-use Rattle.matching.proofs.PlaceRows.{climbs-shape, barred-one, Images, images-none, images-held, images-one}
+use Rattle.matching.proofs.PlaceRows.{stage-begun, stage-here, stage-back}
 use Rattle.matching.proofs.images.place_rows.Statement.{statement}
 use Rattle.matching.proofs.images.place_rows.Tie as tie
 
 abbrev Inv-loop : tie.InvT-loop
-Inv-loop depths names recipe shape labels asked₀ room₀ known map₀ n₀ asked room map n = Images (SameLabel labels names) recipe depths map₀ map n × (length asked ≡ 513) × (length room ≡ roomWords)
+Inv-loop depths names recipe shape labels asked₀ room₀ log₀ known map₀ n₀ asked room log map n =
+    Stage (SameLabel labels names) recipe depths map₀ asked room log map n
 
 abbrev μ-loop : tie.MeasureT-loop
-μ-loop depths names recipe shape labels asked₀ room₀ known map₀ n₀ asked room map n = length recipe - n
+μ-loop depths names recipe shape labels asked₀ room₀ log₀ known map₀ n₀ asked room log map n = length recipe - n
 
--- the window of the next row, and the next row placed in it
-window : (c : tie.After-last-barred Inv-loop μ-loop) → let t = c .before .before .before .before in let a = t .before .before .before .before .before .before .args in
-    HeldIn (SameLabel (a .labels .now) (a .names .now)) (a .recipe .now) (a .depths .now) (suc (t .loop .n)) (suc (c .last-barred .result)) (length (a .depths .now))
-window c =
-    let kin = c .before .before .kin-of in
-    let turn = c .before .before .before .before in
-    let start = turn .before .before .before .before .before .before in
+-- a number that is at most another unless it is 0 is at most that other
+low : (t n : ℕ) → (1 ≤ t → t ≤ n) → t ≤ n
+low t n h = go (decLe 1 t)
+  where
+    go : Dec (1 ≤ t) → t ≤ n
+    go (yes o) = h o
+    go (no o) = omega arith
+
+clear-marks-requires : tie.Need-clear-marks-requires Inv-loop μ-loop
+clear-marks-requires c κs = c .before .before .before .before .before .before .pre .1 .0 .1
+
+place-known-requires : tie.Need-place-known-requires Inv-loop μ-loop
+place-known-requires c κs =
+    let start = c .before .before .before .before .before .before .before .before .before .before in
     let a = start .args in
     let k = start .pre .0 .0 in
     let e = start .pre .0 .1 in
-    images-held _ (a .recipe .now) (a .depths .now) (rw e at (k .outline)) (k .listing .outline) (start .pre .1 .1 .0) (a .map .now) (turn .loop .map) (turn .loop .n) (turn .loop .inv .0) (c .before .before .before .loop-test .taken)
-    (kin .result .left) (kin .result .parent) (c .last-barred .result) (rw add-one at (kin .ensures .0)) (rw add-one at (kin .ensures .1)) (c .last-barred .ensures)
+    let g = start .pre .1 .0 in
+    let words = start .pre .1 .1 .1 in
+    let cleared = c .before .before .before .clear-marks in
+    (low (a .known) _ (λ o. omega (arith, words .3 o .high, k .few)), omega (arith, g, cleared .ensures .size))
 
-placed : (c : tie.After-last-barred Inv-loop μ-loop) (t : ℕ) → let l = c .before .before .before .before in let a = l .before .before .before .before .before .before .args in
-    FirstIn (a .depths .now) (Holds (SameLabel (a .labels .now) (a .names .now)) (a .recipe .now) (a .depths .now) (suc (l .loop .n))) (suc (c .last-barred .result)) (length (a .depths .now)) t
-    → Images (SameLabel (a .labels .now) (a .names .now)) (a .recipe .now) (a .depths .now) (a .map .now) (set (l .loop .map) (l .loop .n) t) (suc (l .loop .n))
-placed c t =
-    let kin = c .before .before .kin-of in
-    let turn = c .before .before .before .before in
-    let start = turn .before .before .before .before .before .before in
+-- the map when the loop begins
+begun : (c : tie.After-place-known Inv-loop μ-loop) → let start = c .before .before .before .before .before .before .before .before .before .before .before in let a = start .args in
+    Stage (SameLabel (a .labels .now) (a .names .now)) (a .recipe .now) (a .depths .now) (a .map .now) (a .asked .now) (a .room .now) (a .log .now) (c .place-known .last .1 .0) (c .place-known .result)
+begun c =
+    let start = c .before .before .before .before .before .before .before .before .before .before .before in
     let a = start .args in
     let k = start .pre .0 .0 in
     let e = start .pre .0 .1 in
-    images-one _ (a .recipe .now) (a .depths .now) (rw e at (k .outline)) (k .listing .outline) (start .pre .1 .1 .0) (a .map .now) (turn .loop .map) (turn .loop .n) (turn .loop .inv .0) (c .before .before .before .loop-test .taken)
-    (kin .result .left) (kin .result .parent) (c .last-barred .result) (rw add-one at (kin .ensures .0)) (rw add-one at (kin .ensures .1)) (c .last-barred .ensures) (start .pre .1 .0 .1) t
+    let g = start .pre .1 .0 in
+    let words = start .pre .1 .1 .1 in
+    let cleared = c .before .before .before .before .clear-marks in
+    stage-begun _ (a .recipe .now) (a .depths .now) (rw e at (k .outline)) (k .listing .outline) (start .pre .1 .1 .0) (a .map .now) (cleared .last .1 .0) (cleared .ensures) (g .0) (g .1) (a .asked .now) (a .room .now) (a .log .now) (words .0, words .1, words .2) (a .known) _ _ (c .place-known .ensures) (λ o. rw e at (words .3 o))
 
 loop-holds : tie.Need-loop-holds Inv-loop μ-loop
-loop-holds c =
-    let start = c .before .before .before .before .before in
-    (images-none _ _ _ _, start .pre .1 .1 .1 .0, start .pre .1 .1 .1 .1)
-
-add-v : tie.Need-add-v Inv-loop μ-loop
-add-v c = omega arith
-
-cast-v : tie.Need-cast-v Inv-loop μ-loop
-cast-v c =
-    let turn = c .before in
-    let start = turn .before .before .before .before .before .before in
-    let a = start .args in
-    let k = start .pre .0 .0 in
-    let e = start .pre .0 .1 in
-    omega (arith, ap length e, k .shape .few)
-
-kin-of-requires : tie.Need-kin-of-requires Inv-loop μ-loop
-kin-of-requires c κs =
-    let turn = c .before in
-    let start = turn .before .before .before .before .before .before in
-    let a = start .args in
-    let k = start .pre .0 .0 in
-    let e = start .pre .0 .1 in
-    ((omega arith, omega arith), climbs-shape (a .recipe .now) (a .shape .now) (turn .loop .n + 1) (omega arith) (rw e at (k .shape)))
-
-last-barred-requires : tie.Need-last-barred-requires Inv-loop μ-loop
-last-barred-requires c κs = search needs
-
-find-image-requires : tie.Need-find-image-requires Inv-loop μ-loop
-find-image-requires c κs =
-    let turn = c .before .before .before .before .before .before in
-    let start = turn .before .before .before .before .before .before in
-    let a = start .args in
-    let k = start .pre .0 .0 in
-    let e = start .pre .0 .1 in
-    let kin = c .before .before .before .before .kin-of in
-    let bar = c .before .before .last-barred in
-    let more = c .before .before .before .before .before .loop-test .taken in
-    let first : turn .loop .n + 1 ≡ 1 → bar .result ≡ 0 =
-    λ o. bar .ensures ∙ barred-one (a .recipe .now) (a .depths .now) (turn .loop .map) (kin .result .left) (kin .result .parent) (rw o at (kin .ensures .0)) (rw o at (kin .ensures .1)) in
-    ((k, rw e (omega arith, omega arith)), (rw (e, add-one (turn .loop .n)) (window (c .before .before)), ((first, start .pre .1 .1 .1 .2), (turn .loop .inv .1, turn .loop .inv .2))))
-
-cast-map : tie.Need-cast-map Inv-loop μ-loop
-cast-map c =
-    let turn = c .before .before .before .before .before .before .before in
-    let start = turn .before .before .before .before .before .before in
-    let a = start .args in
-    let k = start .pre .0 .0 in
-    let e = start .pre .0 .1 in
-    omega (arith, c .find-image .ensures .0 .high, start .pre .1 .0 .0)
-
-mul-map : tie.Need-mul-map Inv-loop μ-loop
-mul-map c =
-    let turn = c .before .before .before .before .before .before .before in
-    let start = turn .before .before .before .before .before .before in
-    let a = start .args in
-    let k = start .pre .0 .0 in
-    let e = start .pre .0 .1 in
-    omega (arith, c .before .before .before .before .before .before .loop-test .taken, ap length e, k .shape .few)
-
-slice-write-map : tie.Need-slice-write-map Inv-loop μ-loop
-slice-write-map c =
-    let turn = c .before .before .before .before .before .before .before in
-    let start = turn .before .before .before .before .before .before in
-    let a = start .args in
-    let k = start .pre .0 .0 in
-    let e = start .pre .0 .1 in
-    omega (arith, c .before .before .before .before .before .before .loop-test .taken, turn .loop .inv .0 .size, start .pre .1 .0 .1)
+loop-holds c = stage-here _ _ _ _ _ _ _ _ _ (begun (c .before .before))
 
 add-n : tie.Need-add-n Inv-loop μ-loop
 add-n c =
-    let turn = c .before .before .before .before .before .before .before in
-    let start = turn .before .before .before .before .before .before in
+    let turn = c .before in
+    let start = turn .before .before .before .before .before .before .before .before .before .before .before .before .before .before in
     let a = start .args in
     let k = start .pre .0 .0 in
     let e = start .pre .0 .1 in
-    omega (arith, c .before .before .before .before .before .before .loop-test .taken, ap length e, k .shape .few)
+    let s = turn .loop .inv in
+    let b = begun (turn .before .before .before) in
+    omega (arith, c .loop-test .taken, ap length e, k .shape .few)
+
+cast-place-row : tie.Need-cast-place-row Inv-loop μ-loop
+cast-place-row c =
+    let turn = c .before .before .before .before .before in
+    let start = turn .before .before .before .before .before .before .before .before .before .before .before .before .before .before in
+    let a = start .args in
+    let k = start .pre .0 .0 in
+    let e = start .pre .0 .1 in
+    let s = turn .loop .inv in
+    let b = begun (turn .before .before .before) in
+    omega (arith, c .before .before .before .before .loop-test .taken, ap length e, k .shape .few)
+
+place-row-requires : tie.Need-place-row-requires Inv-loop μ-loop
+place-row-requires c κs =
+    let turn = c .before .before .before .before .before in
+    let start = turn .before .before .before .before .before .before .before .before .before .before .before .before .before .before in
+    let a = start .args in
+    let k = start .pre .0 .0 in
+    let e = start .pre .0 .1 in
+    let s = turn .loop .inv in
+    let b = begun (turn .before .before .before) in
+    let more = c .before .before .before .before .loop-test .taken in
+    let n : turn .loop .n + 1 - 1 ≡ turn .loop .n = omega arith in
+    ((k, e, (omega arith, omega (arith, more))), (rw n (stage-here _ _ _ _ _ _ _ _ _ s), (start .pre .1 .1 .0, omega (arith, s .size, b .size, start .pre .1 .0 .1))))
 
 loop-less : tie.Need-loop-less Inv-loop μ-loop
-loop-less c = omega arith
+loop-less c =
+    let turn = c .before .before .before .before .before .before .before .before in
+    let start = turn .before .before .before .before .before .before .before .before .before .before .before .before .before .before in
+    let a = start .args in
+    let k = start .pre .0 .0 in
+    let e = start .pre .0 .1 in
+    let s = turn .loop .inv in
+    let b = begun (turn .before .before .before) in
+    omega (arith, c .before .before .before .before .before .before .before .loop-test .taken)
 
 loop-again : tie.Need-loop-again Inv-loop μ-loop
 loop-again c =
-    let turn = c .before .before .before .before .before .before .before in
-    let start = turn .before .before .before .before .before .before in
+    let turn = c .before .before .before .before .before .before .before .before in
+    let start = turn .before .before .before .before .before .before .before .before .before .before .before .before .before .before in
     let a = start .args in
     let k = start .pre .0 .0 in
     let e = start .pre .0 .1 in
-    let f = rw (e, add-one (turn .loop .n)) at (c .find-image .ensures .0) in
-    (rw (add-one (turn .loop .n)) (placed (c .before .before .before) (c .find-image .result) f), c .find-image .ensures .1 .0, c .find-image .ensures .1 .1)
+    let s = turn .loop .inv in
+    let b = begun (turn .before .before .before) in
+    stage-back _ _ _ _ _ _ _ _ _ _ (s .size) (s .rest) (c .before .before .place-row .ensures)
 
 same-length : tie.Need-same-length Inv-loop μ-loop
-same-length c = c .before .loop .inv .0 .size
+same-length c =
+    let turn = c .before in
+    let start = turn .before .before .before .before .before .before .before .before .before .before .before .before .before .before in
+    let a = start .args in
+    let k = start .pre .0 .0 in
+    let e = start .pre .0 .1 in
+    let s = turn .loop .inv in
+    let b = begun (turn .before .before .before) in
+    s .size ∙ b .size
 
 returns : tie.Need-returns Inv-loop μ-loop
 returns c =
     let turn = c .before in
-    let start = turn .before .before .before .before .before .before in
+    let start = turn .before .before .before .before .before .before .before .before .before .before .before .before .before .before in
     let a = start .args in
     let k = start .pre .0 .0 in
     let e = start .pre .0 .1 in
-    let n : turn .loop .n ≡ length (a .recipe .now) = omega (arith, turn .loop .inv .0 .few) in
-    let i = turn .loop .inv .0 in
-    (placed-all _ (a .recipe .now) (a .depths .now) (turn .loop .map) (omega (arith, i .size, start .pre .1 .0 .1)) (rw n at (i .placed)), i .rest)
+    let s = turn .loop .inv in
+    let b = begun (turn .before .before .before) in
+    let n : turn .loop .n ≡ length (a .recipe .now) = omega (arith, s .few, c .loop-test .left) in
+    (placed-all _ (a .recipe .now) (a .depths .now) (turn .loop .map) (omega (arith, s .size, b .size, start .pre .1 .0 .1)) (rw n at (s .placed)), s .rest ∙ b .rest)
 
 pub place-rows-spec : {M : Type 1} → statement M
 place-rows-spec =
@@ -158,16 +142,12 @@ place-rows-spec =
     (tie.spec
     Inv-loop
     μ-loop
+    clear-marks-requires
+    place-known-requires
     loop-holds
-    add-v
-    cast-v
-    kin-of-requires
-    last-barred-requires
-    find-image-requires
-    cast-map
-    mul-map
-    slice-write-map
     add-n
+    cast-place-row
+    place-row-requires
     loop-less
     loop-again
     same-length

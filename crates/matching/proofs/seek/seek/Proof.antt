@@ -1,76 +1,67 @@
--- `matching::seek::seek` meets its contract: a leaf of the recipe is sought by its label, any other row by the corners. Assumes nothing.
-use mathlib.Core.Path.{_≡_, sym, subst, _∙_}
-use Prim.Native.Nat.{ℕ, suc}
+-- `matching::seek::seek` meets its contract: the row found is the first to close that holds the first row of the path. Assumes nothing.
+use Prim.Native.Nat.{_-_, _<_}
 use native.Mathlib.Omega.{arith}
 use lib.ListN.{length}
-use Rattle.rows.specs.Rows.{at}
-use Rattle.rows.specs.Embedding.{SameLabel}
-use Rattle.rows.proofs.AtLaws.{at-row}
-use Rattle.matching.specs.Family.{leftLeaf}
-use Rattle.matching.specs.Placing.{FirstIn}
-use Rattle.matching.specs.Room.{recipeOf}
-use Rattle.matching.proofs.FirstIn.{narrow}
-use Rattle.matching.proofs.Scan.{leaf-held, first-fit}
-use Rattle.matching.proofs.Width.{length-words}
-use borrow.Author.Needs.{needs}
+use Rattle.matching.proofs.Sweeps.{Sweep, sweep-none, sweep-beyond, sweep-end, sweep-size, sweep-sought, sweep-begins, sweep-next, sweep-less}
 use Rattle.matching.proofs.seek.seek.Statement.{statement}
 use Rattle.matching.proofs.seek.seek.Tie as tie
 
--- the row is a leaf
-leaf : (c : tie.Then1) → let a = c .before .before .before .before .before .args in leftLeaf (recipeOf (a .shape .now) (a .labels .now)) (a .v) ≡ a .v
-leaf c =
-    let start = c .before .before .before .before .before in
-    sym (start .pre .0 .0 .shape .leaves (start .args .v) (start .pre .0 .1 .1)) ∙ sym (c .before .leaf-of .ensures) ∙ c .if1 .taken
+abbrev Inv-loop : tie.InvT-loop
+Inv-loop depths first end names shape labels asked₀ room₀ log₀ k at₀ asked room log at = Sweep shape labels depths names asked₀ log₀ k first asked room log at
 
-leaf-of-requires : tie.Need-leaf-of-requires
-leaf-of-requires c κs = let start = c .before .before .before in omega (arith, start .pre .0 .1, start .pre .0 .0 .shape .few)
+abbrev μ-loop : tie.MeasureT-loop
+μ-loop depths first end names shape labels asked₀ room₀ log₀ k at₀ asked room log at = length depths - at
 
-sub-seek-label : tie.Need-sub-seek-label
-sub-seek-label c = c .before .before .before .before .before .pre .0 .1 .0
+loop-holds : tie.Need-loop-holds Inv-loop μ-loop
+loop-holds c =
+    let g = c .before .before .before .pre in
+    let h = g .1 .0 in
+    sweep-none (g .0 .0) (g .0 .1) (g .1 .1 .0) (g .1 .1 .1) (omega (arith, h .0 .1, h .0 .2, h .1 .0))
 
-mul-seek-label : tie.Need-mul-seek-label
-mul-seek-label c = search needs
+forest-corners-requires : tie.Need-forest-corners-requires Inv-loop μ-loop
+forest-corners-requires c κs =
+    let turn = c .before .before .before .before in
+    let start = turn .before .before .before .before in
+    let g = start .pre in
+    let s = turn .loop .inv in
+    let n : turn .loop .at < length (start .args .depths .now) = omega (arith, c .before .before .before .loop-test .taken, g .1 .0 .1 .0) in
+    ((g .0 .0, n, sweep-sought (g .0 .0) (g .0 .1) s n), (sweep-begins (g .0 .0) (g .0 .1) s n _, sweep-size (g .0 .0) (g .0 .1) s n))
 
-shared-slice-read-seek-label : tie.Need-shared-slice-read-seek-label
-shared-slice-read-seek-label c = let start = c .before .before .before .before .before .before in omega (arith, start .pre .0 .1, length-words (start .args .shape .now) 1 (length (start .args .labels .now)))
+loop-less : tie.Need-loop-less Inv-loop μ-loop
+loop-less c =
+    let turn = c .before .before .before .before .before in
+    let start = turn .before .before .before .before in
+    let g = start .pre in
+    let n : turn .loop .at < length (start .args .depths .now) = omega (arith, c .before .before .before .before .loop-test .taken, g .1 .0 .1 .0) in
+    sweep-less (g .0 .0) (g .0 .1) (turn .loop .inv) n (c .forest-corners .ensures)
 
-seek-label-requires : tie.Need-seek-label-requires
-seek-label-requires c κs =
-    let start = c .before .before .before .before .before .before in
-    let a = start .args in
-    let k = start .pre .0 .0 in
-    let h = start .pre .1 .0 .0 in
-    let whole = start .pre .1 .0 .1 in
-    let f = leaf-held (SameLabel (a .labels .now) (a .names .now)) _ (a .depths .now) (k .outline) (k .listing .outline) (a .v) (start .pre .0 .1) (leaf (c .before)) (h .0) (omega (arith, h .1, h .2, whole .0)) .0 (h .3) in
-    ((k .listing .outline, k .names), (h .0, h .1, omega (arith, h .2, whole .0), sym (at-row (a .labels .now) (a .v) (start .pre .0 .1 .0)) ∙ f))
+loop-again : tie.Need-loop-again Inv-loop μ-loop
+loop-again c =
+    let turn = c .before .before .before .before .before in
+    let start = turn .before .before .before .before in
+    let g = start .pre in
+    let n : turn .loop .at < length (start .args .depths .now) = omega (arith, c .before .before .before .before .loop-test .taken, g .1 .0 .1 .0) in
+    sweep-next (g .0 .0) (g .0 .1) (turn .loop .inv) n (c .forest-corners .ensures)
 
-returns : tie.Need-returns
+sub-result : tie.Need-sub-result Inv-loop μ-loop
+sub-result c =
+    let g = c .before .before .before .before .before .pre in
+    omega (arith, sweep-beyond (g .0 .0) (g .0 .1) (c .before .loop .inv) (g .1 .0 .0) (g .1 .0 .1) (c .loop-test .left))
+
+returns : tie.Need-returns Inv-loop μ-loop
 returns c =
-    let start = c .before .before .before .before .before .before .before in
-    let a = start .args in
-    let k = start .pre .0 .0 in
-    let h = start .pre .1 .0 .0 in
-    let whole = start .pre .1 .0 .1 in
-    let t = c .seek-label .result in
-    let f = subst (λ (x : ℕ). FirstIn (a .depths .now) (λ t. x ≡ at (a .names .now) t) (suc (a .first)) (length (a .depths .now)) t) (sym (at-row (a .labels .now) (a .v) (start .pre .0 .1 .0))) (c .seek-label .ensures) in
-    let g = first-fit (SameLabel (a .labels .now) (a .names .now)) _ (a .depths .now) (k .outline) (k .listing .outline) (a .v) (start .pre .0 .1) (leaf (c .before .before)) (suc (a .first)) t (omega arith) f in
-    (narrow (a .depths .now) (k .listing .outline) _ (suc (a .first)) (a .end) (length (a .depths .now)) t (omega arith) (whole .0) (omega arith) (whole .1) (h .0) (h .1) (h .2) (h .3) g, start .pre .1 .1)
-
-seek-tree-requires : tie.Need-seek-tree-requires
-seek-tree-requires c κs = search needs
-
-returns-2 : tie.Need-returns-2
-returns-2 c = search needs
+    let g = c .before .before .before .before .before .pre in
+    sweep-end (g .0 .0) (g .0 .1) (c .before .loop .inv) (g .1 .0 .0) (g .1 .0 .1) (c .loop-test .left)
 
 pub seek-spec : {M : Type 1} → statement M
 seek-spec =
     tie.close
     (tie.spec
-    leaf-of-requires
-    sub-seek-label
-    mul-seek-label
-    shared-slice-read-seek-label
-    seek-label-requires
-    returns
-    seek-tree-requires
-    returns-2)
+    Inv-loop
+    μ-loop
+    loop-holds
+    forest-corners-requires
+    loop-less
+    loop-again
+    sub-result
+    returns)

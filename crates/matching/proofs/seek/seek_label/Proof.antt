@@ -5,6 +5,7 @@ use Prim.Native.Nat.{_-_, _≤_}
 use native.Mathlib.Omega.{arith}
 use native.Mathlib.Numerals.{add-one}
 use lib.ListN.{length}
+use borrow.Author.Tests.{eqb-true, eq-eqb}
 use Rattle.rows.specs.Rows.{at}
 use Rattle.matching.proofs.Scan.{Scanned, scanned-none, scanned-latest, scanned-fits, scanned-end}
 use Rattle.matching.proofs.seek.seek_label.Statement.{statement}
@@ -52,8 +53,8 @@ loop-again c =
     let start = turn .before .before .before in
     let a = start .args in
     let l = c .before .before .before .loop-test .taken in
-    let next = scanned-latest (a .depths .now) (a .names .now) (start .pre .0 .0) (a .name) (a .from) (turn .loop .at) (turn .loop .inv .0) l (turn .loop .hit)
-    (λ p. true≢false (sym (c .before .before .is-past .ensures .1 p) ∙ c .before .if1 .left)) (turn .loop .inv .2) in
+    let next = scanned-latest (a .depths .now) (start .pre .0 .0) _ (a .from) (turn .loop .at) (turn .loop .inv .0) l (turn .loop .hit)
+    (λ p. true≢false (sym (c .before .before .is-past .ensures .1 p) ∙ c .before .if1 .left)) _ (eqb-true _ _, eq-eqb _ _) (turn .loop .inv .2) in
     (omega (arith, turn .loop .inv .0), omega arith, rw (add-one (turn .loop .at), c .latest-hit .ensures) next)
 
 returns-2 : tie.Need-returns-2 Inv-loop μ-loop

@@ -1,0 +1,278 @@
+-- What the marks in the map and the log say of the rows of a path, while the map's images are found. Assumes nothing.
+use mathlib.Core.Path.{_≡_, refl, sym, ap, _∙_}
+use mathlib.Core.List.{List}
+use mathlib.Core.Logic.{_↔_}
+use Prim.Native.Nat.{ℕ, zero, suc, _≤_, _<_}
+use native.Mathlib.Omega.{arith}
+use native.Mathlib.Decide.{decLe, ℕ-discrete}
+use lib.ListN.{length, set}
+use lib.Seq.{getD-set-same}
+use Rattle.rows.specs.Rows.{at, Row, Outline, lastRow, closing, Ancestor, LeftOf}
+use Rattle.rows.proofs.Depths.{inside-ends}
+use Rattle.rows.proofs.Order.{Compared, less, same, more, compared, Later, in-tree, past-tree, later, window}
+use Rattle.matching.specs.Family.{parent, leftSibling}
+use Rattle.matching.specs.EarliestClose.{Holds}
+use Rattle.matching.specs.Placing.{Placed, lowest, highest, HeldIn, Closed, FirstIn}
+use Rattle.matching.specs.Asked.{chain, noted}
+use Rattle.matching.specs.Path.{logged, Path, PathAsked, Within, Told, Logged, Marks, Marked}
+use Rattle.matching.specs.Images.{Cleared}
+use Rattle.matching.proofs.Family.{ParentView, root, child, parent-view, LeftView, first, next, left-view}
+use Rattle.matching.proofs.Sides.{above-above}
+use Rattle.matching.proofs.FirstIn.{narrow, widen}
+use Rattle.matching.proofs.PathLaws.{above-child}
+use Rattle.matching.proofs.Placing.{at-other, earliest-same, lowest-next, behind-parent, window-iff}
+
+module _ (Fit : ℕ → ℕ → Type 0) (rd td : List ℕ) (kr : Outline rd) (kt : Outline td) where
+  -- of the trees that a window has whole, those that include c are told: the first to close of these is the first to hold c
+  module _ (from hi c i : ℕ) (ls : List ℕ) (fits : hi ≤ length td) (whole : Closed td (suc from) hi)
+      (told : (t : ℕ) → from < t → t ≤ hi → (logged ls t ≤ i) ↔ Within Fit rd td c t) (held : HeldIn Fit rd td c (suc from) hi) where
+    told-at : (t : ℕ) → suc from ≤ t → t ≤ hi → Holds Fit rd td c t → logged ls t ≤ i
+    told-at t a b h = (told t a b) .1 (t, omega arith, omega arith, h)
+
+    pub told-some : (y : ℕ) × (suc from ≤ y) × (y ≤ length td) × (logged ls y ≤ i)
+    told-some = let (y, a, b, h) = held in (y, a, omega arith, told-at y a b h)
+
+    pub told-first : (t : ℕ) → FirstIn td (λ y. logged ls y ≤ i) (suc from) (length td) t → FirstIn td (Holds Fit rd td c) (suc from) (length td) t
+    told-first t f =
+        let (y, a, b, h) = held in
+        let g = narrow td kt (λ y. logged ls y ≤ i) (suc from) hi (length td) t (omega arith) fits (omega arith) whole y a b (told-at y a b h) f in
+        go g ((told t (g .low) (g .high)) .0 (g .holds))
+      where
+        alone : (z : ℕ) → suc from ≤ t → t ≤ z → z ≤ lastRow td t → z ≤ hi → closing td t ≤ closing td z → Dec (z ≤ t) → z ≡ t
+        alone z l a b h c (yes o) = omega arith
+        alone z l a b h c (no o) = absurd (omega (arith, (window td kt t z (omega arith) (omega arith)) .1 (omega arith)))
+
+        go : FirstIn td (λ y. logged ls y ≤ i) (suc from) hi t → Within Fit rd td c t → FirstIn td (Holds Fit rd td c) (suc from) (length td) t
+        go g (z, a, b, h) =
+            let w = whole t (g .low) (g .high) in
+            let l = g .low in
+            let e = alone z l a b (omega arith) (g .first z (omega arith) (omega arith) (told-at z (omega arith) (omega arith) h)) (decLe z t) in
+            widen td kt (Holds Fit rd td c) (suc from) (suc from) hi (length td) t (omega arith) (omega arith) fits (omega arith) w
+            (λ y o n q. absurd (omega arith))
+            (record { low = g .low; high = g .high; holds = rw e at h; first = λ y o n q. g .first y o n (told-at y o n q) })
+
+  -- where no row has an image or a mark, there is nothing to tell
+  pub marked-none : (m₀ m ls : List ℕ) → Cleared rd m₀ m → Marked Fit rd td ls m 0
+  marked-none m₀ m ls k =
+      record {
+        up = λ c o h a b. absurd (omega (arith, k .none c h));
+        told = λ c o h a. absurd (omega (arith, k .none c h));
+      }
+
+  -- a marked row gets its image: the marks of later rows and the log stay
+  pub marked-kept : (ls m : List ℕ) (n : ℕ) → Marked Fit rd td ls m n → (t : ℕ) → Marked Fit rd td ls (set m n t) (suc n)
+  marked-kept ls m n k t =
+      record {
+        up = λ c o h a b. rw (other (parent rd c) (λ e. omega arith)) (k .up c (omega arith) h (rw (after c o) at a) (omega arith));
+        told = λ c o h a.
+            let (v, b, l, f) = k .told c (omega arith) h (rw (after c o) at a) in (
+              v,
+              b,
+              omega arith,
+              λ y i j g.
+                  rw (after c o) (f y (rw (before v l) at i) (rw (before v l) at j) (λ u q x. rw (before u q) at (g u (omega arith) x))),
+            );
+      }
+    where
+      other : (u : ℕ) → (u ≡ suc n → ⊥) → at (set m n t) u ≡ at m u
+      other = at-other m n t
+
+      after : (c : ℕ) → suc n < c → at (set m n t) c ≡ at m c
+      after c o = other c (λ e. omega arith)
+
+      before : (u : ℕ) → u ≤ n → at (set m n t) u ≡ at m u
+      before u o = other u (λ e. omega arith)
+
+  module _ (asked : List ℕ) (n k : ℕ) (p : Path rd asked k) (top : chain asked 0 ≡ suc n) where
+    -- the rows of a path are below its first
+    path-below : (i : ℕ) → suc i < k → Ancestor rd (suc n) (chain asked (suc i))
+    path-below zero o = above-child rd kr (suc n) (chain asked 1) (p .rows 1 o) (omega arith) (p .down 0 o ∙ top)
+    path-below (suc i) o =
+        let h : suc i < k = omega arith in
+        let a = path-below i h in
+        let b = above-child rd kr (chain asked (suc i)) (chain asked (suc (suc i))) (p .rows (suc (suc i)) o) (p .rows (suc i) h .0) (p .down (suc i) o) in
+        omega arith
+
+    -- so its marks disturb no image
+    pub marks-images : (m m′ : List ℕ) → Marks rd asked k m m′ → (u : ℕ) → u ≤ suc n → at m′ u ≡ at m u
+    marks-images m m′ h u o = h .others u off
+      where
+        off : (i : ℕ) → 1 ≤ i → i < k → chain asked i ≡ u → ⊥
+        off zero a b e = omega arith
+        off (suc i) a b e = omega (arith, path-below i b)
+
+    pub marks-placed : (m m′ : List ℕ) → Marks rd asked k m m′ → Placed Fit rd td m n → Placed Fit rd td m′ n
+    marks-placed m m′ h done u r o = earliest-same Fit rd td m m′ u (r .0) (λ w b. sym (marks-images m m′ h w (omega arith))) (done u r o)
+
+  -- above a marked row the first row without an image has a mark too
+  marked-above : (ls m : List ℕ) (n : ℕ) → Marked Fit rd td ls m n → (b c : ℕ) → c < b → n < c → c ≤ length rd → 1 ≤ at m c → Ancestor rd (suc n) c → 1 ≤ at m (suc n)
+  marked-above ls m n k zero c o i h a l = absurd (omega arith)
+  marked-above ls m n k (suc b) c o i h a l = go (parent-view rd kr c (omega arith)) (marked-above ls m n k b (parent rd c))
+    where
+      go : ParentView rd c
+          → (parent rd c < b → n < parent rd c → parent rd c ≤ length rd → 1 ≤ at m (parent rd c) → Ancestor rd (suc n) (parent rd c) → 1 ≤ at m (suc n))
+          → 1 ≤ at m (suc n)
+      go (root z d f) ih = absurd (f (suc n) l)
+      go (child q) ih = at-parent (q .nearest (suc n) l) (q .above .1) (compared (suc n) (parent rd c))
+        where
+          at-parent : suc n ≤ parent rd c → parent rd c < c → Compared (suc n) (parent rd c) → 1 ≤ at m (suc n)
+          at-parent x y (less z) = ih (omega arith) x (omega arith) (k .up c i h a x) (above-above rd kr (suc n) (parent rd c) c (omega arith) l y z)
+          at-parent x y (same z) = rw (ap (at m) z) (k .up c i h a x)
+          at-parent x y (more z) = absurd (omega arith)
+
+  -- a row without a mark gets its image, and the rows of a path below it get marks: ms tells of the path in the tree at the image, and behind
+  -- that tree tells what ls told
+  module _ (ls ms m m′ asked : List ℕ) (n k t : ℕ) (old : Marked Fit rd td ls m n) (blank : at m (suc n) ≡ 0) (p : PathAsked rd asked k)
+      (top : chain asked 0 ≡ suc n) (room : length rd ≤ length m) (marks : Marks rd asked k m m′)
+      (tells : (y : ℕ) → t ≤ y → y ≤ lastRow td t → Told Fit rd td asked k ms y) (stays : (y : ℕ) → lastRow td t < y → logged ms y ≡ logged ls y) where
+    fits : suc n ≤ length rd
+    fits = omega (arith, p .path .rows 0 (p .some))
+
+    here : at (set m′ n t) (suc n) ≡ t
+    here = getD-set-same m′ n t 0 (omega (arith, fits, marks .size))
+
+    other : (u : ℕ) → (u ≡ suc n → ⊥) → at (set m′ n t) u ≡ at m′ u
+    other = at-other m′ n t
+
+    before : (u : ℕ) → u ≤ n → at (set m′ n t) u ≡ at m u
+    before u o = other u (λ e. omega arith) ∙ marks-images asked n k (p .path) top m m′ marks u (omega arith)
+
+    -- a row is on the path behind its first, and has its place as its mark, or has what it had
+    data Spot (c : ℕ) : Type 0 where
+      on : (i : ℕ) → suc i < k → chain asked (suc i) ≡ c → at m′ c ≡ suc i → Spot c
+      off : at m′ c ≡ at m c → Spot c
+
+    spot : (c : ℕ) → Spot c
+    spot c = go (noted asked c) refl (decLe (suc (noted asked c)) k) (ℕ-discrete (chain asked (noted asked c)) c)
+      where
+        miss : ((i : ℕ) → noted asked c ≡ i → 1 ≤ i → i < k → chain asked i ≡ c → ⊥) → Spot c
+        miss f = off (marks .others c (λ i a b e. f i (rw e at (p .chains .places i b)) a b e))
+
+        go : (i : ℕ) → noted asked c ≡ i → Dec (noted asked c < k) → Dec (chain asked (noted asked c) ≡ c) → Spot c
+        go zero z d e = miss (λ i q a b e. omega arith)
+        go (suc i) z (yes h) (yes e) =
+            let x : chain asked (suc i) ≡ c = rw z at e in on i (omega arith) x (rw x at (marks .marked (suc i) (omega arith) (omega arith)))
+        go (suc i) z (no h) e = miss (λ i q a b e. omega arith)
+        go (suc i) z (yes h) (no e) = miss (λ i q a b x. e (rw q x))
+
+    up : (c : ℕ) → suc n < c → c ≤ length rd → 1 ≤ at m′ c → suc n < parent rd c → Spot c → Spot (parent rd c) → 1 ≤ at m′ (parent rd c)
+    up c o h a b (on zero j e q) s = absurd (omega (arith, ap (parent rd) e, p .path .down 0 j))
+    up c o h a b (on (suc i) j e q) s =
+        omega (arith, ap (λ (x : ℕ). at m′ (parent rd x)) e, ap (at m′) (p .path .down (suc i) j), marks .marked (suc i) (omega arith) (omega arith))
+    up c o h a b (off q) (on i j e r) = omega arith
+    up c o h a b (off q) (off r) = rw r (old .up c (omega arith) h (rw q at a) (omega arith))
+
+    abbrev Tells : ℕ → ℕ → Type 0
+    Tells c v =
+        (y : ℕ) → at (set m′ n t) v ≤ y → y ≤ lastRow td (at (set m′ n t) v)
+        → ((u : ℕ) → u ≤ suc n → LeftOf rd u c → lastRow td (at (set m′ n t) u) < y) → (logged ms y ≤ at m′ c) ↔ Within Fit rd td c y
+
+    told : (c : ℕ) → suc n < c → c ≤ length rd → 1 ≤ at m′ c → Spot c → Later rd kr (suc n) c → (v : ℕ) × Ancestor rd v c × (v ≤ suc n) × Tells c v
+    told c o h a (on i j e q) d = (
+      suc n,
+      rw e at (path-below asked n k (p .path) top i j),
+      omega arith,
+      λ y l r g. rw (q, ← e) ((tells y (rw here at l) (rw here at r)) (suc i) (omega arith) j),
+    )
+    told c o h a (off q) (in-tree b) = absurd (omega (arith, blank, marked-above ls m n old (suc c) c (omega arith) (omega arith) h (rw q at a) b))
+    told c o h a (off q) (past-tree b) =
+        let (v, x, w, f) = old .told c (omega arith) h (rw q at a) in (
+          v,
+          x,
+          omega arith,
+          λ y l r g.
+              rw (q, stays y (rw here at (g (suc n) (omega arith) b)))
+              (f y (rw (before v w) at l) (rw (before v w) at r) (λ u s z. rw (before u s) at (g u (omega arith) z))),
+        )
+
+    marked-path : Marked Fit rd td ms (set m′ n t) (suc n)
+    marked-path =
+        record {
+          up = λ c o h a b.
+              rw (other (parent rd c) (λ e. omega arith))
+              (up c o h (rw (other c (λ e. omega arith)) at a) b (spot c) (spot (parent rd c)));
+          told = λ c o h a.
+              rw (other c (λ e. omega arith))
+              (told c o h (rw (other c (λ e. omega arith)) at a) (spot c) (later rd kr (suc n) c (omega (arith, fits)) (omega arith) o));
+        }
+
+  -- so it is where a search for the path came upon the image of its first row
+  pub marked-pass : (ls ls′ m m′ asked us : List ℕ) (n k from t : ℕ) → Marked Fit rd td ls m n → at m (suc n) ≡ 0 → PathAsked rd asked k
+      → chain asked 0 ≡ suc n → length rd ≤ length m → Marks rd asked k m m′ → Logged Fit rd td asked k ls from t us ls′
+      → Marked Fit rd td ls′ (set m′ n t) (suc n)
+  marked-pass ls ls′ m m′ asked us n k from t old blank p top room marks l =
+      marked-path ls ls′ m m′ asked n k t old blank p top room marks (l .told) (λ y h. l .kept .stays y (λ a b. omega arith))
+
+  -- the images of placed rows, and the windows of rows up to the next, stand to one another as the rows do
+  module _ (m : List ℕ) (n : ℕ) (done : Placed Fit rd td m n) where
+    abbrev Lies : ℕ → ℕ → ℕ → Type 0
+    Lies v t u = (Ancestor rd u v → (at m u < t) × (t ≤ lastRow td (at m u))) × (LeftOf rd u v → lastRow td (at m u) < t)
+
+    image-row : (u : ℕ) → Row rd u → u ≤ n → Row td (at m u)
+    image-row u r o = done u r o .allowed .row
+
+    -- an image is in its row's window
+    image-in : (u : ℕ) → Row rd u → u ≤ n → (lowest rd td m u ≤ at m u) × (at m u ≤ highest rd td m u)
+    image-in zero r o = absurd (omega arith)
+    image-in (suc i) r o =
+        let w = (window-iff Fit rd td kr kt m i (r .1) (λ u x h. done u x (omega arith)) (at m (suc i))) .0 (done (suc i) r o .allowed) in
+        (w .0, w .1)
+
+    begins : (v : ℕ) → Row rd v → v ≤ suc n → at m (parent rd v) < lowest rd td m v
+    begins zero r o = absurd (omega arith)
+    begins (suc i) r o = behind-parent Fit rd td kr kt m i (r .1) (λ u x h. done u x (omega arith))
+
+    module _ (v t : ℕ) (r : Row rd v) (o : v ≤ suc n) (low : lowest rd td m v ≤ t) (high : t ≤ highest rd td m v)
+        (ih : (w u : ℕ) → w < v → Row rd w → Lies w (at m w) u) where
+      start : at m (parent rd v) < t
+      start = omega (arith, begins v r o)
+
+      -- where u's image is above that of a row w, the latter's tree ends in the tree at the former
+      ends : (u w : ℕ) → Row rd w → w < v → Ancestor rd u w → (at m u < at m w) × (lastRow td (at m w) ≤ lastRow td (at m u))
+      ends u w q i a =
+          let b = (ih w u i q) .0 a in (b .0, inside-ends td (at m u) (at m w) (image-row u (omega arith) (omega arith)) (omega arith) (b .1))
+
+      lies-above : ParentView rd v → (u : ℕ) → Ancestor rd u v → (at m u < t) × (t ≤ lastRow td (at m u))
+      lies-above (root z d f) u a = absurd (f u a)
+      lies-above (child p) u a = go (p .above .1) (compared u (parent rd v))
+        where
+          go : parent rd v < v → Compared u (parent rd v) → (at m u < t) × (t ≤ lastRow td (at m u))
+          go i (less h) = omega (arith, start, ends u (parent rd v) (omega arith) i (above-above rd kr u (parent rd v) v r a i h))
+          go i (same h) = rw h (start, high)
+          go i (more h) = absurd (omega (arith, p .nearest u a))
+
+      lies-left : LeftView rd v → (u : ℕ) → LeftOf rd u v → lastRow td (at m u) < t
+      lies-left (first e d f) u a = let b = f u a in omega (arith, start, (ih (parent rd v) u (omega arith) (omega arith)) .1 b)
+      lies-left (next l) u a = go (l .left) (compared u (leftSibling rd v))
+        where
+          behind : lastRow td (at m (leftSibling rd v)) < t
+          behind = omega (arith, lowest-next rd td m v (l .left .0))
+
+          go : LeftOf rd (leftSibling rd v) v → Compared u (leftSibling rd v) → lastRow td (at m u) < t
+          go i (less h) = before (later rd kr u (leftSibling rd v) (omega arith) (omega arith) h)
+            where
+              before : Later rd kr u (leftSibling rd v) → lastRow td (at m u) < t
+              before (in-tree b) = absurd (omega (arith, l .last u a))
+              before (past-tree b) = omega (arith, behind, (ih (leftSibling rd v) u (i .1) (omega arith)) .1 b)
+          go i (same h) = rw h behind
+          go i (more h) = after (later rd kr (leftSibling rd v) u (omega arith) (omega arith) h)
+            where
+              after : Later rd kr (leftSibling rd v) u → lastRow td (at m u) < t
+              after (in-tree b) = omega (arith, behind, ends (leftSibling rd v) u (omega arith) (a .1) b)
+              after (past-tree b) = absurd (omega (arith, l .last u a))
+
+    lies : (b v t u : ℕ) → v < b → Row rd v → v ≤ suc n → lowest rd td m v ≤ t → t ≤ highest rd td m v → Lies v t u
+    lies zero v t u h r o low high = absurd (omega arith)
+    lies (suc b) v t u h r o low high =
+        let ih : (w x : ℕ) → w < v → Row rd w → Lies w (at m w) x =
+        λ w x i q. let j = image-in w q (omega arith) in lies b w (at m w) x (omega arith) q (omega arith) (j .0) (j .1) in
+        (lies-above v t r o low high ih (parent-view rd kr v r) u, lies-left v t r o low high ih (left-view rd kr v r) u)
+
+    -- so the log tells of the whole window of the next row, if that has a mark
+    pub marked-window : (ls : List ℕ) → suc n ≤ length rd → Marked Fit rd td ls m n → 1 ≤ at m (suc n) → (t : ℕ) → lowest rd td m (suc n) ≤ t → t ≤ highest rd td m (suc n)
+        → (logged ls t ≤ at m (suc n)) ↔ Within Fit rd td (suc n) t
+    marked-window ls fits k a t low high =
+        let (v, b, l, f) = k .told (suc n) (omega arith) fits a in
+        let x : (u : ℕ) → Lies (suc n) t u = λ u. lies (suc (suc n)) (suc n) t u (omega arith) (omega arith) (omega arith) low high in
+        let y = (x v) .0 b in
+        f t (omega arith) (y .1) (λ u h c. (x u) .1 c)
