@@ -73,8 +73,8 @@ static int tree_corners(int base, int q, int k, int first)
     if (first + 1 >= n || td[first + 1] <= td[first]) {
         if (k > 1) logged[first] = PATH;
         for (int i = 0; i < q; i++) {
-            u16 a = room[base + i], y = right[a];
-            room[base + i] = join_row(a, close_row(name, asked[i], 0), y ? close_row(name, y, 0) : 0);
+            u16 a = room[base + i], y = right[a], w = a ? y ? close_row(name, y, 0) : 0 : close_row(name, asked[i], 0);
+            if (!a || (w && deep[w] == deep[a])) room[base + i] = w;
         }
         return first + 1;
     }

@@ -4,7 +4,7 @@ use mathlib.Core.Path.{_≡_, refl, sym, ap, ap₂, _∙_}
 use mathlib.Core.Bool.{Bool, true, false, _&&_, true≢false}
 use mathlib.Core.Logic.{_↔_, Iff·rfl}
 use mathlib.Core.List.{List}
-use Prim.Native.Nat.{ℕ, zero, suc, _+_, _≤_, _<_}
+use Prim.Native.Nat.{ℕ, zero, suc, _+_, _-_, _≤_, _<_}
 use native.Mathlib.Omega.{arith}
 use native.Mathlib.Decide.{decLt, ℕ-discrete}
 use lib.Dec.{ltb}
@@ -13,7 +13,7 @@ use borrow.Author.Tests.{lt-ltb, le-ltb, eq-eqb, ne-eqb}
 use Rattle.rows.specs.Rows.{Row, depth, Outline}
 use Rattle.rows.specs.Forest.{Forest, nil, cons, beside}
 use Rattle.matching.specs.Family.{parent, rightSibling, leftLeaf}
-use Rattle.matching.specs.CornerRow.{fromRow, closeRow, joinRow, corners, cornerAt}
+use Rattle.matching.specs.CornerRow.{fromRow, closeRow, joinRow, corners, cornerAt, OnChain}
 use Rattle.matching.proofs.Lies.{roots}
 use Rattle.matching.proofs.Cut.{rootAt, otherTrees, spine, levels, root-other, level-none, some-level}
 use Rattle.matching.proofs.Best.{Best, best-unique, best-nothing, best-none, best-kept, best-raised, best-higher, best-wider, best-stays}
@@ -285,10 +285,18 @@ module _ (test : ℕ → ℕ → Bool) (rd : List ℕ) (k : Outline rd) where
       (row-join Fits test (λ v t. Iff·rfl) rd k x r f h a (cornerAt test rd h x) (cornerAt test rd h (rightSibling rd a)) (found f x (r .1)) (found h x (r .1))
       (found h (rightSibling rd a) (right-fits rd a)))
 
-  -- a corner is 0 or a row
-  pub corner-fits : (f : Forest ℕ) (x : ℕ) → x ≤ length rd → cornerAt test rd f x ≤ length rd
-  corner-fits f x h = go (standing-of rd k x _ _ _ h (found f x h .best .has) (found f x h .row))
+  -- a corner is 0 or a row, and no deeper than the left-most leaf, which stands on the last level
+  pub corner-on : (f : Forest ℕ) (x : ℕ) → x ≤ length rd → OnChain rd x (cornerAt test rd f x)
+  corner-on f x h = let b = found f x h in go (standing-of rd k x _ _ _ h (b .best .has) (b .row))
     where
-      go : Standing rd x (found f x h .width) (found f x h .level) (cornerAt test rd f x) → cornerAt test rd f x ≤ length rd
-      go (empty i w) = omega arith
-      go (at-row i s q d) = q .1
+      leaf : (n : ℕ) → Row rd x → levels (fromRow rd x) ≡ suc n → depth rd (leftLeaf rd x) ≡ depth rd x + n
+      leaf n r e = let s : leftLeaf rd x ≡ x + n = omega (arith, leaf-level rd k x r) in ap (depth rd) s ∙ level-of rd k n x r (omega arith) .deep
+
+      go : Standing rd x (found f x h .width) (found f x h .level) (cornerAt test rd f x) → OnChain rd x (cornerAt test rd f x)
+      go (empty i w) = record { asks = h; row = omega arith; low = λ o. absurd (omega arith) }
+      go (at-row i s q d) =
+          let v = some-level (found f x h .level) (fromRow rd x) (omega (arith, found f x h .best .has)) in
+          record { asks = h; row = q .1; low = λ o. omega (arith, leaf (levels (fromRow rd x) - 1) s (omega arith)) }
+
+  pub corner-fits : (f : Forest ℕ) (x : ℕ) → x ≤ length rd → cornerAt test rd f x ≤ length rd
+  corner-fits f x h = corner-on f x h .row

@@ -1,6 +1,6 @@
 -- Closing a row and joining a tree by the words of the recipe's shape. Assumes nothing.
-use mathlib.Core.Path.{_≡_, sym, _∙_}
-use mathlib.Core.Bool.{true, false}
+use mathlib.Core.Path.{_≡_, refl, sym, ap, _∙_}
+use mathlib.Core.Bool.{Bool, true, false}
 use mathlib.Core.List.{List}
 use Prim.Native.Nat.{ℕ, _≤_, _<_}
 use native.Mathlib.Omega.{arith}
@@ -9,10 +9,11 @@ use lib.ListN.{length}
 use borrow.Author.Tests.{eq-eqb, ne-eqb}
 use Rattle.rows.specs.Rows.{at, depth}
 use Rattle.matching.specs.Family.{parent, rightSibling, leftLeaf}
-use Rattle.matching.specs.CornerRow.{closeRow, joinRow}
+use Rattle.matching.specs.CornerRow.{closeRow, joinRow, OnChain}
 use Rattle.matching.specs.Shape.{word, Shape}
-use Rattle.matching.specs.Room.{recipeOf, named}
+use Rattle.matching.specs.Room.{recipeOf, named, alone}
 use Rattle.matching.proofs.LeftLeaf.{leaf-within}
+use Rattle.matching.proofs.Level.{right-fits}
 use Rattle.matching.proofs.Siblings.{parent-within}
 use Rattle.matching.proofs.Width.{length-words}
 use Rattle.matching.proofs.CornerRow.{close-new, close-empty, close-top, close-wide, close-raise, close-other, join-empty, join-higher, join-wider, join-kept}
@@ -96,6 +97,51 @@ module _ (rd ws : List ℕ) (k : Shape rd ws) (a b w : ℕ) (ha : a ≤ length r
 
       pub words-kept : ((1 ≤ w) × (word 3 ws w ≡ d) → ⊥) → a ≡ joinRow rd a b w
       words-kept h = sym (join-kept rd a b w (omega arith) under (λ o q. h (o, k .depths w hw ∙ q ∙ sym here)))
+
+-- a row alone has the left-most leaf as its corner, or none
+module _ (ws rl : List ℕ) (name : ℕ) where
+  abbrev rd : List ℕ
+  rd = recipeOf ws rl
+
+  pub alone-case : (P : ℕ → Type 0) (x : ℕ) → P 0 → P (leftLeaf rd x) → P (alone ws rl name x)
+  alone-case P x none some = go (named rl (leftLeaf rd x) name) refl
+    where
+      go : (b : Bool) → named rl (leftLeaf rd x) name ≡ b → P (alone ws rl name x)
+      go true e = rw (close-new (named rl) rd x name 0 refl e) some
+      go false e = rw (close-empty (named rl) rd x name 0 refl e) none
+
+  pub alone-fits : (x : ℕ) → x ≤ length rd → alone ws rl name x ≤ length rd
+  alone-fits x h = alone-case (λ b. b ≤ length rd) x (omega arith) (leaf-within rd x h)
+
+  -- so it is no higher than a corner on the same chain, and only the corner on the chain after that one can widen it
+  module _ (k : Shape rd ws) (x a : ℕ) (on : OnChain rd x a) where
+    pub after-fits : word 1 ws a ≤ length rd
+    after-fits = omega (arith, k .rights a (on .row), right-fits rd a)
+
+    abbrev Joined : ℕ
+    Joined = joinRow rd a (alone ws rl name x) (alone ws rl name (word 1 ws a))
+
+    pub alone-none : a ≡ 0 → alone ws rl name x ≡ Joined
+    alone-none h = sym (join-empty rd a _ _ h)
+
+    module _ (some : a ≡ 0 → ⊥) (w d : ℕ) (ew : w ≡ alone ws rl name (word 1 ws a)) (ed : d ≡ word 3 ws a) where
+      hw : w ≤ length rd
+      hw = omega (arith, alone-fits (word 1 ws a) after-fits)
+
+      low : (1 ≤ alone ws rl name x) × (word 3 ws (alone ws rl name x) < d) → ⊥
+      low h =
+          omega (
+            arith,
+            alone-case (λ b. 1 ≤ b → depth rd a ≤ depth rd b) x (λ o. absurd (omega arith)) (λ o. on .low (omega arith)) (h .0),
+            k .depths (alone ws rl name x) (alone-fits x (on .asks)),
+            k .depths a (on .row),
+          )
+
+      pub alone-wider : (1 ≤ w) × (word 3 ws w ≡ d) → w ≡ Joined
+      alone-wider h = words-wider rd ws k a (alone ws rl name x) w (on .row) (alone-fits x (on .asks)) hw some d ed low h ∙ ap (joinRow rd a (alone ws rl name x)) ew
+
+      pub alone-kept : ((1 ≤ w) × (word 3 ws w ≡ d) → ⊥) → a ≡ Joined
+      alone-kept h = words-kept rd ws k a (alone ws rl name x) w (on .row) (alone-fits x (on .asks)) hw some d ed low h ∙ ap (joinRow rd a (alone ws rl name x)) ew
 
 -- the rows whose labels are read, a left-most leaf and a parent, have labels
 module _ (ws rl : List ℕ) (k : Shape (recipeOf ws rl) ws) (x : ℕ) (h : x ≤ length (recipeOf ws rl)) where

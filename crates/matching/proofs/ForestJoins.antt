@@ -11,13 +11,13 @@ use Rattle.rows.specs.Embedding.{SameLabel}
 use Rattle.rows.proofs.Depths.{after-shallow, last-fits, inside-ends}
 use Rattle.rows.proofs.Flat.{beside-nil, beside-assoc}
 use Rattle.rows.proofs.Windows.{at-step, at-end, window-at, size-below}
+use Rattle.matching.specs.CornerRow.{OnChain}
 use Rattle.matching.specs.Asked.{chain}
 use Rattle.matching.specs.Placing.{HeldIn}
 use Rattle.matching.specs.Room.{Written, sameLabel, recipeOf}
 use Rattle.matching.specs.Path.{logBytes, Told, Kept}
 use Rattle.matching.specs.Engine.{Ready, Begins, Ends, Sought, Found, Through, Passed, treeAt, cornerOf, withTree}
-use Rattle.matching.proofs.CornerRow.{corner-nothing, corner-join}
-use Rattle.matching.proofs.TreeJoins.{corner-of-fits}
+use Rattle.matching.proofs.CornerRow.{corner-nothing, corner-join, corner-on}
 use Rattle.matching.proofs.Passes.{none-more, found-more}
 use Rattle.matching.proofs.PathLaws.{path-same, told-same, kept-wide, kept-both, kept-none}
 
@@ -96,8 +96,9 @@ module _ (ws rl td tl : List ℕ) (k : Ready ws rl td tl) (asked rs₀ ls : List
       s : So us ss ms r
       s = t .so low
 
-      pub so-fits : (i : ℕ) → i < q → getD ss (base + i) 0 ≤ length (recipeOf ws rl)
-      so-fits i n = omega (arith, s .ends .corners i n, corner-of-fits ws rl td tl k (s .done) (chain asked i) (b .chains .rows i n .1))
+      pub so-fits : (i : ℕ) → i < q → OnChain (recipeOf ws rl) (chain us i) (getD ss (base + i) 0)
+      so-fits i n =
+          rw (s .ends .keep i n, s .ends .corners i n) (corner-on (sameLabel rl tl) (recipeOf ws rl) (k .outline) (s .done) (chain asked i) (b .chains .rows i n .1))
 
       all : (r < length td → depth td (suc r) < d) → ForestPass r us ss ms
       all e =

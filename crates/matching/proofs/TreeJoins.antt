@@ -13,13 +13,14 @@ use Rattle.rows.proofs.Depths.{after-shallow, inside-deeper, last-fits}
 use Rattle.rows.proofs.DescendantLaws.{count-on, count-stop}
 use Rattle.rows.proofs.Windows.{at-end, size-below}
 use Rattle.matching.specs.Family.{rightSibling}
-use Rattle.matching.specs.CornerRow.{closeRow, joinRow}
+use Rattle.matching.specs.CornerRow.{closeRow, joinRow, OnChain}
 use Rattle.matching.specs.Shape.{word}
 use Rattle.matching.specs.Asked.{chain, noted, Asked, Member, after, Extends}
-use Rattle.matching.specs.Room.{roomWords, roomFor, Written, named, sameLabel, recipeOf, closed, following, joined, alone, joinedAlone, Joins, JoinsAlone}
+use Rattle.matching.specs.Room.{roomWords, roomFor, Written, named, sameLabel, recipeOf, closed, following, joined, alone, joinedAlone, Joins}
 use Rattle.matching.specs.Engine.{Ready, Begins, Ends, treeAt, cornerOf, withTree}
 use Rattle.matching.proofs.AskedLaws.{asked-few, member-kept}
-use Rattle.matching.proofs.CornerRow.{close-new, close-empty, corner-nothing, corner-close, corner-fits}
+use Rattle.matching.proofs.CornerRow.{corner-nothing, corner-close, corner-fits}
+use Rattle.matching.proofs.CornerWords.{alone-case}
 use Rattle.matching.proofs.Level.{right-fits}
 use Rattle.matching.proofs.Written.{room-more, following-none, following-some}
 
@@ -83,15 +84,8 @@ module _ (ws rl td tl : List ℕ) (k : Ready ws rl td tl) where
   close-of t x f r = sym (corner-close test rd (k .outline) x t f r)
 
   -- and a row alone over nothing
-  alone-zero : (a : ℕ) → alone ws rl a 0 ≡ 0
-  alone-zero a = go (named rl 0 a) refl
-    where
-      go : (b : Bool) → named rl 0 a ≡ b → alone ws rl a 0 ≡ 0
-      go true e = close-new (named rl) rd 0 a 0 refl e
-      go false e = close-empty (named rl) rd 0 a 0 refl e
-
   alone-of : (t x : ℕ) → x ≤ length rd → alone ws rl (at tl t) x ≡ cornerOf ws rl tl (cons t nil nil) x
-  alone-of t zero h = alone-zero (at tl t)
+  alone-of t zero h = alone-case ws rl (at tl t) (λ b. b ≡ 0) 0 refl refl
   alone-of t (suc z) h =
       ap (closeRow (named rl) rd (suc z) (at tl t)) (sym (corner-nothing test rd (suc z))) ∙ close-of t (suc z) nil (omega arith, h)
 
@@ -106,7 +100,7 @@ module _ (ws rl td tl : List ℕ) (k : Ready ws rl td tl) where
         omega (arith, b .room, ap (roomFor (length rd) q) e)
 
   module _ (asked rs : List ℕ) (base q first : ℕ) (b : Begins ws rl asked rs base q (depth td (suc first))) (h : first < length td)
-      (fits : (i : ℕ) → i < q → getD rs (base + i) 0 ≤ length rd) where
+      (fits : (i : ℕ) → i < q → OnChain rd (chain asked i) (getD rs (base + i) 0)) where
     abbrev name : ℕ
     name = at tl (suc first)
 
@@ -116,7 +110,7 @@ module _ (ws rl td tl : List ℕ) (k : Ready ws rl td tl) where
     -- what extending needs of the corners
     pub extend-fits : (i : ℕ) → i < q → (getD rs (base + i) 0 ≤ 256) × (after ws rs (base + i) ≤ 256)
     extend-fits i l =
-        omega (arith, fits i l, k .shape .few, right-word (getD rs (base + i) 0) (fits i l), right-fits rd (getD rs (base + i) 0))
+        omega (arith, fits i l .row, k .shape .few, right-word (getD rs (base + i) 0) (fits i l .row), right-fits rd (getD rs (base + i) 0))
 
     -- a row alone
     module _ (leaf : descendants td (suc first) ≡ 0) where
@@ -127,22 +121,7 @@ module _ (ws rl td tl : List ℕ) (k : Ready ws rl td tl) where
       alone-tree x l = alone-of (suc first) x l ∙ ap (λ (f : Forest ℕ). cornerOf ws rl tl f x) (sym tree-alone)
 
       right-low : (i : ℕ) → i < q → word 1 ws (getD rs (base + i) 0) ≤ length rd
-      right-low i l = omega (arith, right-word (getD rs (base + i) 0) (fits i l), right-fits rd (getD rs (base + i) 0))
-
-      pub leaf-joins : (i : ℕ) → i < q → JoinsAlone ws rl name asked rs base i
-      leaf-joins i l =
-          let x = b .chains .rows i l .1 in
-          record {
-            left = fits i l;
-            asks = x;
-            right = right-low i l;
-            tree = omega (arith, alone-tree (chain asked i) x, corner-of-fits (treeAt td first) (chain asked i) x);
-            next = omega (
-              arith,
-              alone-tree (word 1 ws (getD rs (base + i) 0)) (right-low i l),
-              corner-of-fits (treeAt td first) (word 1 ws (getD rs (base + i) 0)) (right-low i l),
-            );
-          }
+      right-low i l = omega (arith, right-word (getD rs (base + i) 0) (fits i l .row), right-fits rd (getD rs (base + i) 0))
 
       pub leaf-ends : (ss : List ℕ) → Written rs base q (joinedAlone ws rl name asked rs base) ss
           → Ends ws rl asked rs base q (λ i. withTree ws rl td tl first (chain asked i) (getD rs (base + i) 0)) asked ss
@@ -156,7 +135,7 @@ module _ (ws rl td tl : List ℕ) (k : Ready ws rl td tl) where
                 w .new i l
                 ∙ ap₂ (joinRow rd (getD rs (base + i) 0)) (alone-tree (chain asked i) (b .chains .rows i l .1))
                 (alone-tree (word 1 ws (getD rs (base + i) 0)) (right-low i l)
-                ∙ ap (cornerOf ws rl tl (treeAt td first)) (right-word (getD rs (base + i) 0) (fits i l)));
+                ∙ ap (cornerOf ws rl tl (treeAt td first)) (right-word (getD rs (base + i) 0) (fits i l .row)));
           }
 
     -- a row with rows below it
@@ -174,7 +153,7 @@ module _ (ws rl td tl : List ℕ) (k : Ready ws rl td tl) where
         chains-more : Asked (length rd) us z
         chains-more =
             x .asked (length rd) (k .shape .few)
-            (λ i l. omega (arith, right-word (getD rs (base + i) 0) (fits i l), right-fits rd (getD rs (base + i) 0))) (b .chains)
+            (λ i l. omega (arith, right-word (getD rs (base + i) 0) (fits i l .row), right-fits rd (getD rs (base + i) 0))) (b .chains)
 
         pub z-few : z ≤ length rd
         z-few = asked-few (length rd) us z chains-more
@@ -236,20 +215,20 @@ module _ (ws rl td tl : List ℕ) (k : Ready ws rl td tl) where
                     → following ws vs rs₂ (base + q) (getD rs (base + i) 0) ≡ cornerOf ws rl tl (treeAt td first) (rightSibling rd (getD rs (base + i) 0))
                 go (yes e) =
                     following-none ws vs rs₂ (base + q) (getD rs (base + i) 0) _ refl e
-                    ∙ sym (ap (cornerOf ws rl tl (treeAt td first)) (sym (right-word (getD rs (base + i) 0) (fits i l)) ∙ e))
+                    ∙ sym (ap (cornerOf ws rl tl (treeAt td first)) (sym (right-word (getD rs (base + i) 0) (fits i l .row)) ∙ e))
                 go (no e) =
                     let o = after-member i l (omega arith) in
                     following-some ws vs rs₂ (base + q) (getD rs (base + i) 0) _ refl e
                     ∙ tree-corner (noted vs (word 1 ws (getD rs (base + i) 0))) (o .0)
-                    ∙ ap (cornerOf ws rl tl (treeAt td first)) (o .1 ∙ right-word (getD rs (base + i) 0) (fits i l))
+                    ∙ ap (cornerOf ws rl tl (treeAt td first)) (o .1 ∙ right-word (getD rs (base + i) 0) (fits i l .row))
 
             pub tree-joins : (i : ℕ) → i < q → Joins ws rl vs rs₂ base q z i
             tree-joins i l =
                 let e = left i l in
-                let r = right-word (getD rs (base + i) 0) (fits i l) in
+                let r = right-word (getD rs (base + i) 0) (fits i l .row) in
                 let t = tree-corner i (omega (arith, x .least)) in
                 record {
-                  left = rw e (fits i l);
+                  left = rw e (fits i l .row);
                   tree = omega (arith, t, corner-of-fits (treeAt td first) (chain vs i) (y .chains .rows i (omega (arith, x .least)) .1));
                   right = rw e (omega (arith, r, right-fits rd (getD rs (base + i) 0), k .shape .few));
                   place = rw e (λ o. after-member i l o .0);

@@ -10,6 +10,7 @@ use Rattle.rows.specs.Rows.{at, Row, depth, descendants, lastRow}
 use Rattle.rows.specs.Forest.{size, forestAt}
 use Rattle.rows.specs.Embedding.{SameLabel}
 use Rattle.rows.proofs.Depths.{last-fits}
+use Rattle.matching.specs.CornerRow.{OnChain}
 use Rattle.matching.specs.Asked.{chain, Keep, Extends}
 use Rattle.matching.specs.Room.{recipeOf, Written, closed, joined, joinedAlone}
 use Rattle.matching.specs.Path.{logBytes, Within, Told, Put, Kept, Level, FirstLevel}
@@ -21,7 +22,7 @@ use Rattle.matching.proofs.Passes.{level-lies, found-below, found-here}
 use Rattle.matching.proofs.PathLaws.{path-same, path-down, told-same, kept-wide, kept-both, kept-one, leaf-without}
 
 module _ (ws rl td tl : List ℕ) (k : Ready ws rl td tl) (asked rs ls : List ℕ) (base q l first : ℕ) (b : Begins ws rl asked rs base q (depth td (suc first)))
-    (h : first < length td) (s : Sought ws rl asked q l) (n : length ls ≡ logBytes) (fits : (i : ℕ) → i < q → getD rs (base + i) 0 ≤ length (recipeOf ws rl)) where
+    (h : first < length td) (s : Sought ws rl asked q l) (n : length ls ≡ logBytes) (fits : (i : ℕ) → i < q → OnChain (recipeOf ws rl) (chain asked i) (getD rs (base + i) 0)) where
   abbrev rd : List ℕ
   rd = recipeOf ws rl
 

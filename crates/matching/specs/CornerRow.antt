@@ -2,8 +2,9 @@
 -- forest follow from those of its parts. `test v t` says whether recipe row v fits listing row t. Assumes nothing.
 use mathlib.Core.Bool.{Bool, true, false, _&&_}
 use mathlib.Core.List.{List}
-use Prim.Native.Nat.{ℕ, zero, suc}
+use Prim.Native.Nat.{ℕ, zero, suc, _≤_}
 use lib.Dec.{ltb, eqb}
+use lib.ListN.{length}
 use Rattle.rows.specs.Rows.{depth, counted}
 use Rattle.rows.specs.Forest.{Forest, nil, cons, forestAt}
 use Rattle.matching.specs.Family.{parent, rightSibling, leftLeaf}
@@ -58,6 +59,12 @@ corners test rd (cons t f r) x =
 abbrev pub cornerAt : (ℕ → ℕ → Bool) → List ℕ → Forest ℕ → ℕ → ℕ
 cornerAt test rd f zero = 0
 cornerAt test rd f (suc z) = corners test rd f (suc z)
+
+-- a corner a on chain x is 0, or a row that stands no deeper than the left-most leaf of x
+pub record OnChain (rd : List ℕ) (x a : ℕ) : Type 0 where
+  pub asks : x ≤ length rd
+  pub row : a ≤ length rd
+  pub low : 1 ≤ a → depth rd a ≤ depth rd (leftLeaf rd x)
 
 -- document 01's pair of a corner: the width is the place of its last subtree among its siblings, the row their parent; the empty
 -- corner stands at the left-most leaf

@@ -71,10 +71,3 @@ pub record Joins (ws rl asked rs : List ℕ) (base q z i : ℕ) : Type 0 where
   pub right : word 1 ws (getD rs (base + i) 0) ≤ 256
   pub place : 1 ≤ word 1 ws (getD rs (base + i) 0) → noted asked (word 1 ws (getD rs (base + i) 0)) < z
   pub next : following ws asked rs (base + q) (getD rs (base + i) 0) ≤ length (recipeOf ws rl)
-
-pub record JoinsAlone (ws rl : List ℕ) (a : ℕ) (asked rs : List ℕ) (base i : ℕ) : Type 0 where
-  pub left : getD rs (base + i) 0 ≤ length (recipeOf ws rl)
-  pub asks : chain asked i ≤ length (recipeOf ws rl)
-  pub right : word 1 ws (getD rs (base + i) 0) ≤ length (recipeOf ws rl)
-  pub tree : alone ws rl a (chain asked i) ≤ length (recipeOf ws rl)
-  pub next : alone ws rl a (word 1 ws (getD rs (base + i) 0)) ≤ length (recipeOf ws rl)

@@ -6,15 +6,17 @@ ghost use Prim.Native.Nat.{ℕ, suc, _≤_, _<_, _+_};
 ghost use lib.ListN.{length, getD};
 ghost use Rattle.rows.specs.Rows.{depth, descendants, lastRow};
 ghost use Rattle.rows.specs.Forest.{size, forestAt};
+ghost use Rattle.matching.specs.CornerRow.{OnChain};
 ghost use Rattle.matching.specs.Shape.{Shape, word};
 ghost use Rattle.matching.specs.Asked.{chain, noted};
 ghost use Rattle.matching.specs.Path.{logBytes, FirstLevel};
 ghost use Rattle.matching.specs.Engine.{Ready, Begins, Sought, Passed, cornerOf, withTree};
-ghost use Rattle.matching.specs.Room.{roomWords, recipeOf, following, Written, closed, joined, joinedAlone, Joins, JoinsAlone};
+ghost use Rattle.matching.specs.Room.{roomWords, recipeOf, following, Written, closed, joined, joinedAlone, Joins};
 use crate::asked::extend;
 use crate::asked::wide;
 use crate::joining::close_row;
 use crate::joining::is_level;
+use crate::joining::join_alone;
 use crate::joining::join_row;
 use crate::log::write_log;
 use crate::shape::depth_of;
@@ -109,15 +111,12 @@ fn join_leaf(
 )
     requires { ⌜ Shape (recipeOf (now shape) (now labels)) (now shape) ⌝ }
     requires { ⌜ (base + q ≤ roomWords) × (length (now room) ≡ roomWords) × (q ≤ 256) ⌝ }
-    requires { ⌜ ((i : ℕ) → i < q → JoinsAlone (now shape) (now labels) name (now asked) (now room) base i) ⌝ }
+    requires { ⌜ ((i : ℕ) → i < q → OnChain (recipeOf (now shape) (now labels)) (chain (now asked) i) (getD (now room) (base + i) 0)) ⌝ }
     ensures { λ r. ⌜ Written (now (room .entry)) base q (joinedAlone (now (shape .entry)) (now (labels .entry)) name (now (asked .entry)) (now (room .entry)) base) (now (room .exit)) ⌝ }
 {
     let mut i = 0;
     while i < q {
-        let a = room[base + i];
-        let b = close_row(shape, labels, name, asked[i], 0);
-        let w = close_row(shape, labels, name, right_of(shape, a), 0);
-        room[base + i] = join_row(shape, labels, a, b, w);
+        room[base + i] = join_alone(shape, labels, name, asked[i], room[base + i]);
         i += 1;
     }
 }
@@ -183,7 +182,7 @@ fn tree_corners(
 ) -> usize
     requires { ⌜ Ready (now shape) (now labels) (now depths) (now names) × (first < length (now depths)) × Sought (now shape) (now labels) (now asked) q k ⌝ }
     requires { ⌜ Begins (now shape) (now labels) (now asked) (now room) base q (depth (now depths) (suc first)) × (length (now log) ≡ logBytes) ⌝ }
-    requires { ⌜ ((i : ℕ) → i < q → getD (now room) (base + i) 0 ≤ length (recipeOf (now shape) (now labels))) ⌝ }
+    requires { ⌜ ((i : ℕ) → i < q → OnChain (recipeOf (now shape) (now labels)) (chain (now asked) i) (getD (now room) (base + i) 0)) ⌝ }
     ensures { λ r. ⌜ Passed (now (shape .entry)) (now (labels .entry)) (now (depths .entry)) (now (names .entry)) (now (asked .entry)) (now (room .entry)) (now (log .entry)) base q
         (λ i. withTree (now (shape .entry)) (now (labels .entry)) (now (depths .entry)) (now (names .entry)) first (chain (now (asked .entry)) i) (getD (now (room .entry)) (base + i) 0))
         k first (lastRow (now (depths .entry)) (suc first)) r (now (asked .exit)) (now (room .exit)) (now (log .exit)) ⌝ }

@@ -5,9 +5,9 @@ ghost use mathlib.Core.Logic.{_↔_};
 ghost use Prim.Native.Nat.{_≤_, _<_};
 ghost use lib.ListN.{length};
 ghost use Rattle.rows.specs.Rows.{at};
-ghost use Rattle.matching.specs.CornerRow.{closeRow, joinRow};
+ghost use Rattle.matching.specs.CornerRow.{closeRow, joinRow, OnChain};
 ghost use Rattle.matching.specs.Shape.{Shape, word};
-ghost use Rattle.matching.specs.Room.{recipeOf, named};
+ghost use Rattle.matching.specs.Room.{recipeOf, named, alone};
 use crate::shape::depth_of;
 use crate::shape::leaf_of;
 use crate::shape::parent_of;
@@ -86,6 +86,23 @@ pub(crate) fn join_row(shape: &[u16; 1028], labels: &[u32], a: u16, b: u16, w: u
         return b;
     }
     if is_level(shape, w, d) {
+        return w;
+    }
+    a
+}
+
+// How a listing row alone with the label name changes the corner a on chain x: the row's own corner, a left-most leaf, is never
+// higher than a, so where a is a row, only the next tree beside it can be gained.
+pub(crate) fn join_alone(shape: &[u16; 1028], labels: &[u32], name: u32, x: u16, a: u16) -> u16
+    requires { ⌜ Shape (recipeOf (now shape) (now labels)) (now shape) ⌝ }
+    requires { ⌜ OnChain (recipeOf (now shape) (now labels)) x a ⌝ }
+    ensures { λ r. ⌜ r ≡ joinRow (recipeOf (now (shape .entry)) (now (labels .entry))) a (alone (now (shape .entry)) (now (labels .entry)) name x) (alone (now (shape .entry)) (now (labels .entry)) name (word 1 (now (shape .entry)) a)) ⌝ }
+{
+    if a == 0 {
+        return close_row(shape, labels, name, x, 0);
+    }
+    let w = close_row(shape, labels, name, right_of(shape, a), 0);
+    if is_level(shape, w, depth_of(shape, a)) {
         return w;
     }
     a

@@ -3,7 +3,7 @@ use borrow.Author.Needs.{needs}
 use borrow.Author.Tests.{not-true, not-false}
 use Rattle.rows.specs.Rows.{descendants}
 use Rattle.matching.proofs.AskedLaws.{asked-more}
-use Rattle.matching.proofs.TreeJoins.{none-below, level-room, few, extend-fits, leaf-joins, more-rows, z-few, begins-below, z-room, close-fits, tree-joins}
+use Rattle.matching.proofs.TreeJoins.{none-below, level-room, few, extend-fits, more-rows, z-few, begins-below, z-room, close-fits, tree-joins}
 use Rattle.matching.proofs.TreePass.{belowEnd, BelowThrough, leaf-through, sought-below, below-found, below-fits, tree-found, tree-through}
 use Prim.Native.Nat.{suc, _≤_, _+_, _-_, _*_}
 use mathlib.Core.Path.{_≡_, sym, _∙_}
@@ -210,7 +210,7 @@ tree-corners-join-leaf-requires t c κs =
       start .pre .1 .0 .0 .shape,
       (
         (level-room (a .shape .now) (a .labels .now) (a .depths .now) (a .names .now) (start .pre .1 .0 .0) (a .asked .now) (a .room .now) (a .base) (a .q) (a .first) (start .pre .1 .1 .0 .0) (start .pre .1 .0 .1), start .pre .1 .1 .0 .0 .words, omega (arith, few (a .shape .now) (a .labels .now) (a .depths .now) (a .names .now) (start .pre .1 .0 .0) (a .asked .now) (a .room .now) (a .base) (a .q) (a .first) (start .pre .1 .1 .0 .0) (start .pre .1 .0 .1), start .pre .1 .0 .0 .shape .few)),
-        leaf-joins (a .shape .now) (a .labels .now) (a .depths .now) (a .names .now) (start .pre .1 .0 .0) (a .asked .now) (a .room .now) (a .base) (a .q) (a .first) (start .pre .1 .1 .0 .0) (start .pre .1 .0 .1) (start .pre .1 .1 .1) (no-rows t (c .before .before .before .before .before)),
+        start .pre .1 .1 .1,
       ),
     )
 
