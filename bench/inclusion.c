@@ -27,7 +27,7 @@ static u32 next(u32 below)
 
 /* ---- the same algorithm: corners of the chains asked; then an image for each row, by its label, by the log of an earlier pass, or by a
    pass that stops at the image and logs for each row it closes which rows of a path it includes ---- */
-enum { PATH = 15, PATH_RECIPE = 228 };
+enum { PATH = 15, PATH_RECIPE = 228, PATH_DEPTH = 4 };
 static u16 parent[RECIPE + 1], right[RECIPE + 1], left[RECIPE + 1], leaf[RECIPE + 1], deep[RECIPE + 1];
 static u16 asked[RECIPE], place[RECIPE + 1], room[ROOM], mark[RECIPE + 1];
 static unsigned char logged[LISTING];
@@ -141,7 +141,7 @@ static u16 widest_child(u16 u)
 
 static u16 seek_path(u16 v, int at)
 {
-    int k = 0, most = m <= PATH_RECIPE ? PATH : 1;
+    int k = 0, most = m <= PATH_RECIPE || deep[v] >= PATH_DEPTH ? PATH : 1;
     for (u16 u = v; k < most && leaf[u] != u; u = widest_child(u)) {
         asked[k] = u, place[u] = (u16)k;
         if (k) mark[u] = (u16)k;
@@ -269,6 +269,18 @@ static void padded_comb(int height, int others)
     }
 }
 
+/* The same with the other rows in pairs, one below the other. */
+static void paired_comb(int height, int pairs)
+{
+    n = m = 0;
+    for (int i = 0; i < 2 * height - 1; i++) {
+        u16 depth = (u16)((i + 1) / 2);
+        m = grow(rd, rl, m, RECIPE, depth, 1), n = grow(td, tl, n, LISTING, depth, 1);
+        for (int k = 0; i % 2 && depth < DEEPEST && k < pairs; k++)
+            n = grow(td, tl, n, LISTING, depth, 2), n = grow(td, tl, n, LISTING, (u16)(depth + 1), 2);
+    }
+}
+
 /* The same with three leaves left of each link: nearly as large as a recipe may be. */
 static void large_comb(int others)
 {
@@ -359,6 +371,7 @@ int main(void)
     comb(26, 1), wrong |= measure("comb, h = 26");
     comb(63, 1), wrong |= measure("comb, h = 63");
     padded_comb(63, 62), wrong |= measure("comb among others, h = 63");
+    paired_comb(63, 31), wrong |= measure("comb among pairs, h = 63");
     large_comb(60), wrong |= measure("large comb among others");
     all_asked(), wrong |= measure("all chains asked");
     chance(1, 0, 0), wrong |= measure("one label, by chance");

@@ -1,7 +1,7 @@
 -- One chain alone is asked: what the corner functions need then. Assumes nothing.
 use mathlib.Core.Path.{_≡_, ap, _∙_}
 use mathlib.Core.List.{List}
-use Prim.Native.Nat.{ℕ, _+_, _≤_, _<_}
+use Prim.Native.Nat.{ℕ, _+_, _-_, _≤_, _<_}
 use native.Mathlib.Omega.{arith}
 use lib.ListN.{length, set, length-set}
 use lib.Seq.{getD-set-same, getD-set-other}
@@ -33,7 +33,7 @@ module _ (ws : List ℕ) (v : ℕ) (size : length ws ≡ 513) (high : v ≤ 256)
   pub begins-alone : (sh rl rs : List ℕ) (d : ℕ) → length (recipeOf sh rl) ≤ 256 → Row (recipeOf sh rl) v → length rs ≡ roomWords → Begins sh rl askAlone rs 0 1 d
   begins-alone sh rl rs d few r n =
       let m = length (recipeOf sh rl) in
-      record { chains = alone-asked m (r .0) (r .1); words = n; room = room-below m 1 64 d roomWords (room-one m 1 few (omega arith)) }
+      record { chains = alone-asked m (r .0) (r .1); words = n; room = room-below m 1 (64 - d) 64 roomWords (omega arith) (room-one m 1 few (omega arith)) }
 
 -- the whole forest of the listing, with no row and with some
 pub forest-none : (td : List ℕ) → length td ≡ 0 → forest td ≡ nil

@@ -30,7 +30,7 @@ use Rattle.matching.proofs.Refusals.{tables-fine}
 use Rattle.matching.proofs.CornerLaws.{corner-at, whole-iff}
 use Rattle.matching.proofs.TreeRow.{tree-row}
 use Rattle.matching.proofs.FirstIn.{enter, here, beyond}
-use Rattle.matching.proofs.Held.{held-tree, held-below}
+use Rattle.matching.proofs.Held.{held-root, held-tree, held-below}
 use Rattle.matching.proofs.Passes.{same-right}
 use Rattle.matching.proofs.Placing.{highest-fits, window-closed, placed-next}
 use Rattle.matching.proofs.Offers.{held-next}
@@ -119,21 +119,11 @@ module _ (rd rl td tl : List ℕ) where
         whole : lastRow td lo ≤ hi
         whole = c lo (omega arith) (omega (arith, k .1, k .2))
 
-        held-in : LiesIn Fit (cons v (below rd v) nil) (cons lo (below td lo) nil) → HeldIn Fit rd td v lo (lastRow td lo)
-        held-in = held-tree Fit rd td kr kt v r lo row .1
-
         tree-none : treeIn v (cons lo (below td lo) nil) ≡ false → (z : ℕ) → lo ≤ z → z ≤ lastRow td lo → Holds Fit rd td v z → ⊥
         tree-none e z i j q = tree-out v r (cons lo (below td lo) nil) e (held-tree Fit rd td kr kt v r lo row .0 (z, i, j, q))
 
-        below-none : treeIn v (below td lo) ≡ false → (z : ℕ) → lo < z → z ≤ lastRow td lo → Holds Fit rd td v z → ⊥
-        below-none e z i j q = tree-out v r (below td lo) e (held-below Fit rd td kr kt v r lo row .0 (z, omega arith, j, q))
-
-        root : treeIn v (below td lo) ≡ false → HeldIn Fit rd td v lo (lastRow td lo) → Holds Fit rd td v lo
-        root e (z, i, j, q) = here-or (decLe z lo)
-          where
-            here-or : Dec (z ≤ lo) → Holds Fit rd td v lo
-            here-or (yes o) = let f : z ≡ lo = omega arith in rw f at q
-            here-or (no o) = absurd (below-none e z (omega arith) j q)
+        below-none : treeIn v (below td lo) ≡ false → HeldIn Fit rd td v (suc lo) (lastRow td lo) → ⊥
+        below-none e h = tree-out v r (below td lo) e (held-below Fit rd td kr kt v r lo row .0 h)
 
         rest : treeIn v (cons lo (below td lo) nil) ≡ false → Dec (k .0 ≤ lastRow td lo) → HeldIn Fit rd td v (suc (lastRow td lo)) hi
         rest e (yes o) = absurd (tree-none e (k .0) (k .1) o (k .3))
@@ -147,7 +137,8 @@ module _ (rd rl td tl : List ℕ) where
             (ih (suc lo) (lastRow td lo) (omega arith) (omega (arith, whole)) (λ z i j. inside-ends td lo z row (omega arith) j)
             (held-below Fit rd td kr kt v r lo row .1 ((tree-in v r (below td lo)) .0 e)) (omega (arith, whole)))
         go ih false true e f =
-            here td kt (Holds Fit rd td v) lo hi one whole end (below-none e) (root e (held-in ((tree-in v r (cons lo (below td lo) nil)) .0 f)))
+            here td kt (Holds Fit rd td v) lo hi one whole end (λ z i j q. below-none e (z, i, j, q))
+            (held-root Fit rd td v lo (lastRow td lo) (held-tree Fit rd td kr kt v r lo row .1 ((tree-in v r (cons lo (below td lo) nil)) .0 f)) (below-none e))
         go ih false false e f =
             beyond td kt (Holds Fit rd td v) lo hi one whole end (tree-none f) _
             (ih (suc (lastRow td lo)) hi (omega arith) end (λ z i j. c z (omega arith) j) (rest f (decLe (k .0) (lastRow td lo))) (omega arith))

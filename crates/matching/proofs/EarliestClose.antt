@@ -7,18 +7,17 @@ use Prim.Native.Nat.{ℕ, zero, suc, _≤_, _<_}
 use native.Mathlib.Omega.{arith}
 use lib.ListN.{length, set, take, length-set}
 use lib.Seq.{ext-getD, getD-take, length-take-le}
-use Rattle.rows.specs.Rows.{at, Row, Outline, Ancestor, LeftOf}
+use Rattle.rows.specs.Rows.{at, Row, Outline}
 use Rattle.rows.specs.Embedding.{Embedding, Included}
-use Rattle.rows.proofs.Order.{Compared, less, same, more, compared, Later, in-tree, past-tree, later}
+use Rattle.rows.proofs.Order.{window, behind-window}
 use Rattle.rows.proofs.Inclusion.{embeds-from, listed, length-listed}
-use Rattle.matching.specs.Family.{parent, leftSibling}
 use Rattle.matching.specs.EarliestClose.{Holds, EarliestClose}
 use Rattle.matching.specs.Placing.{Placed, lowest, highest, HeldIn}
-use Rattle.matching.proofs.Family.{ParentView, root, child, parent-view, LeftView, first, next, left-view}
-use Rattle.matching.proofs.Sides.{above-above, left-above, above-left, one-closing}
+use Rattle.matching.proofs.Sides.{one-closing}
 use Rattle.matching.proofs.Holds.{dec-holds}
 use Rattle.matching.proofs.FirstIn.{Sought, found, nowhere, sought}
 use Rattle.matching.proofs.Placing.{allowed-same, earliest-same, highest-fits, window-closed, placed-next}
+use Rattle.matching.proofs.Keeps.{Keeps, keeps}
 use Rattle.matching.proofs.Offers.{held-next}
 
 -- at most one map
@@ -37,63 +36,13 @@ module _ (Fit : ℕ → ℕ → Type 0) (rd td : List ℕ) (kt : Outline td) (m 
   pub earliest-one : m ≡ n
   earliest-one = ext-getD 0 m n (km .count ∙ sym (kn .count)) (λ i h. agree (suc (suc i)) (suc i) (omega arith) (omega (arith, km .count)))
 
--- it is an embedding: each row's parent and left sibling carry ancestry and left-of over
+-- it is an embedding: the images of placed rows keep ancestry and left-of
 module _ (Fit : ℕ → ℕ → Type 0) (rd td : List ℕ) (kr : Outline rd) (kt : Outline td) (m : List ℕ) (k : EarliestClose Fit rd td m) where
   image : (v : ℕ) → Row rd v → Row td (at m v)
   image v r = k .each v r .allowed .row
 
-  abbrev Kept : ℕ → ℕ → Type 0
-  Kept u v = (Ancestor rd u v → Ancestor td (at m u) (at m v)) × (LeftOf rd u v → LeftOf td (at m u) (at m v))
-
-  module _ (v : ℕ) (r : Row rd v) (ih : (w u : ℕ) → w < v → Row rd w → Kept u w) where
-    keep-above : ParentView rd v → (u : ℕ) → Ancestor rd u v → Ancestor td (at m u) (at m v)
-    keep-above (root z d f) u a = absurd (f u a)
-    keep-above (child p) u a = go (compared u (parent rd v))
-      where
-        c : Ancestor td (at m (parent rd v)) (at m v)
-        c = k .each v r .allowed .below (λ z. omega (arith, p .above))
-
-        go : Compared u (parent rd v) → Ancestor td (at m u) (at m v)
-        go (less o) =
-            let b = (ih (parent rd v) u (p .above .1) (omega (arith, p .above))) .0 (above-above rd kr u (parent rd v) v r a (p .above .1) o) in
-            omega (arith, c)
-        go (same o) = rw o c
-        go (more o) = absurd (omega (arith, p .nearest u a))
-
-    keep-left : LeftView rd v → ParentView rd v → (u : ℕ) → LeftOf rd u v → LeftOf td (at m u) (at m v)
-    keep-left (first e d f) (root z y g) u a = absurd (omega (arith, f u a))
-    keep-left (first e d f) (child p) u a =
-        left-above td kt (at m u) (at m (parent rd v)) (at m v) (image v r)
-        ((ih (parent rd v) u (p .above .1) (omega (arith, p .above))) .1 (f u a))
-        (k .each v r .allowed .below (λ z. omega (arith, p .above)))
-    keep-left (next l) w u a = go (compared u (leftSibling rd v))
-      where
-        rs : Row rd (leftSibling rd v)
-        rs = omega (arith, l .left)
-
-        c : LeftOf td (at m (leftSibling rd v)) (at m v)
-        c = k .each v r .allowed .right (λ z. omega (arith, l .left))
-
-        before : Later rd kr u (leftSibling rd v) → LeftOf td (at m u) (at m v)
-        before (in-tree b) = absurd (omega (arith, l .last u a))
-        before (past-tree b) = omega (arith, c, (ih (leftSibling rd v) u (l .left .1) rs) .1 b)
-
-        behind : Later rd kr (leftSibling rd v) u → LeftOf td (at m u) (at m v)
-        behind (in-tree b) =
-            above-left td kt (at m (leftSibling rd v)) (at m u) (at m v) (image u (omega arith)) (image v r)
-            ((ih u (leftSibling rd v) (a .1) (omega arith)) .0 b) c
-        behind (past-tree b) = absurd (omega (arith, l .last u a))
-
-        go : Compared u (leftSibling rd v) → LeftOf td (at m u) (at m v)
-        go (less o) = before (later rd kr u (leftSibling rd v) (omega arith) rs o)
-        go (same o) = rw o c
-        go (more o) = behind (later rd kr (leftSibling rd v) u rs (omega arith) o)
-
-  kept : (b v u : ℕ) → v < b → Row rd v → Kept u v
-  kept zero v u o r = absurd (omega arith)
-  kept (suc b) v u o r =
-      let ih : (w x : ℕ) → w < v → Row rd w → Kept x w = λ w x i j. kept b w x (omega arith) j in
-      (keep-above v r ih (parent-view rd kr v r) u, keep-left v r ih (left-view rd kr v r) (parent-view rd kr v r) u)
+  kept : (v : ℕ) → Row rd v → Keeps rd td m v (at m v)
+  kept v r = keeps Fit rd td kr kt m (length rd) (λ u q o. k .each u q) v r (r .1)
 
   fit-of : (v : ℕ) → Row rd v → Fit v (at m v)
   fit-of v r = let h = k .each v r .allowed .holds in rw (h .1) at (h .2 .fits v (omega arith))
@@ -102,8 +51,9 @@ module _ (Fit : ℕ → ℕ → Type 0) (rd td : List ℕ) (kr : Outline rd) (kt
   earliest-embeds =
       record {
         count = k .count;
-        embeds = embeds-from Fit rd td kr (Row rd) (at m) (λ v r. r) (λ u v q r. (kept (suc v) v u (omega arith) r) .0)
-            (λ u v q r. (kept (suc v) v u (omega arith) r) .1) image fit-of;
+        embeds = embeds-from Fit rd td kr (Row rd) (at m) (λ v r. r)
+            (λ u v q r a. (window td kt (at m u) (at m v) (image u q) (image v r)) .1 (omega (arith, (kept v r u) .0 a)))
+            (λ u v q r a. (behind-window td kt (at m u) (at m v) (image u q) (image v r)) .1 ((kept v r u) .1 a)) image fit-of;
       }
 
 -- the front of a list in which all rows are placed is the map

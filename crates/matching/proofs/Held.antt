@@ -13,7 +13,7 @@ use Rattle.rows.proofs.Depths.{last-fits}
 use Rattle.rows.specs.Stands.{Stands, Among}
 use Rattle.rows.proofs.Windows.{window-below, size-below}
 use Rattle.rows.proofs.Inclusion.{embeds-part, Maps, maps-iff}
-use Rattle.matching.specs.EarliestClose.{Tree}
+use Rattle.matching.specs.EarliestClose.{Tree, Holds}
 use Rattle.matching.specs.Placing.{HeldIn}
 use Rattle.matching.proofs.Holds.{rest-below}
 
@@ -31,6 +31,14 @@ stands-ends ds z (cons b f g) s y a =
     go (yes i) d x w = let e : y ≡ suc z = omega arith in rw e (omega (arith, s .2))
     go (no i) (yes j) x w = omega (arith, x (omega arith))
     go (no i) (no j) x w = omega (arith, w (omega arith))
+
+-- where one of the rows t to hi holds v and none behind t does, t does
+pub held-root : (Fit : ℕ → ℕ → Type 0) (rd td : List ℕ) (v t hi : ℕ) → HeldIn Fit rd td v t hi → (HeldIn Fit rd td v (suc t) hi → ⊥) → Holds Fit rd td v t
+held-root Fit rd td v t hi (y, a, b, p) none = go (decLe y t)
+  where
+    go : Dec (y ≤ t) → Holds Fit rd td v t
+    go (yes i) = let e : y ≡ t = omega arith in rw e at p
+    go (no i) = absurd (none (y, omega arith, b, p))
 
 module _ (Fit : ℕ → ℕ → Type 0) (rd td : List ℕ) (kr : Outline rd) (kt : Outline td) where
   -- the tree at v lies in a forest of the listing just where one of its rows holds v

@@ -16,6 +16,7 @@ pub mod ForestJoins
 pub mod Held
 pub mod Holds
 pub mod JudgeLaws
+pub mod Keeps
 pub mod LeftLeaf
 pub mod Level
 pub mod Lies

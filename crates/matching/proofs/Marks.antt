@@ -7,20 +7,20 @@ use native.Mathlib.Omega.{arith}
 use native.Mathlib.Decide.{decLe, ℕ-discrete}
 use lib.ListN.{length, set}
 use lib.Seq.{getD-set-same}
-use Rattle.rows.specs.Rows.{at, Row, Outline, lastRow, closing, Ancestor, LeftOf}
-use Rattle.rows.proofs.Depths.{inside-ends}
+use Rattle.rows.specs.Rows.{at, Outline, lastRow, closing, Ancestor, LeftOf}
 use Rattle.rows.proofs.Order.{Compared, less, same, more, compared, Later, in-tree, past-tree, later, window}
-use Rattle.matching.specs.Family.{parent, leftSibling}
+use Rattle.matching.specs.Family.{parent}
 use Rattle.matching.specs.EarliestClose.{Holds}
 use Rattle.matching.specs.Placing.{Placed, lowest, highest, HeldIn, Closed, FirstIn}
 use Rattle.matching.specs.Asked.{chain, noted}
 use Rattle.matching.specs.Path.{logged, Path, PathAsked, Within, Told, Logged, Marks, Marked}
 use Rattle.matching.specs.Images.{Cleared}
-use Rattle.matching.proofs.Family.{ParentView, root, child, parent-view, LeftView, first, next, left-view}
+use Rattle.matching.proofs.Family.{ParentView, root, child, parent-view}
 use Rattle.matching.proofs.Sides.{above-above}
 use Rattle.matching.proofs.FirstIn.{narrow, widen}
 use Rattle.matching.proofs.PathLaws.{above-child}
-use Rattle.matching.proofs.Placing.{at-other, earliest-same, lowest-next, behind-parent, window-iff}
+use Rattle.matching.proofs.Placing.{at-other, earliest-same}
+use Rattle.matching.proofs.Keeps.{keeps-next}
 
 module _ (Fit : ℕ → ℕ → Type 0) (rd td : List ℕ) (kr : Outline rd) (kt : Outline td) where
   -- of the trees that a window has whole, those that include c are told: the first to close of these is the first to hold c
@@ -203,76 +203,11 @@ module _ (Fit : ℕ → ℕ → Type 0) (rd td : List ℕ) (kr : Outline rd) (kt
   marked-pass ls ls′ m m′ asked us n k from t old blank p top room marks l =
       marked-path ls ls′ m m′ asked n k t old blank p top room marks (l .told) (λ y h. l .kept .stays y (λ a b. omega arith))
 
-  -- the images of placed rows, and the windows of rows up to the next, stand to one another as the rows do
-  module _ (m : List ℕ) (n : ℕ) (done : Placed Fit rd td m n) where
-    abbrev Lies : ℕ → ℕ → ℕ → Type 0
-    Lies v t u = (Ancestor rd u v → (at m u < t) × (t ≤ lastRow td (at m u))) × (LeftOf rd u v → lastRow td (at m u) < t)
-
-    image-row : (u : ℕ) → Row rd u → u ≤ n → Row td (at m u)
-    image-row u r o = done u r o .allowed .row
-
-    -- an image is in its row's window
-    image-in : (u : ℕ) → Row rd u → u ≤ n → (lowest rd td m u ≤ at m u) × (at m u ≤ highest rd td m u)
-    image-in zero r o = absurd (omega arith)
-    image-in (suc i) r o =
-        let w = (window-iff Fit rd td kr kt m i (r .1) (λ u x h. done u x (omega arith)) (at m (suc i))) .0 (done (suc i) r o .allowed) in
-        (w .0, w .1)
-
-    begins : (v : ℕ) → Row rd v → v ≤ suc n → at m (parent rd v) < lowest rd td m v
-    begins zero r o = absurd (omega arith)
-    begins (suc i) r o = behind-parent Fit rd td kr kt m i (r .1) (λ u x h. done u x (omega arith))
-
-    module _ (v t : ℕ) (r : Row rd v) (o : v ≤ suc n) (low : lowest rd td m v ≤ t) (high : t ≤ highest rd td m v)
-        (ih : (w u : ℕ) → w < v → Row rd w → Lies w (at m w) u) where
-      start : at m (parent rd v) < t
-      start = omega (arith, begins v r o)
-
-      -- where u's image is above that of a row w, the latter's tree ends in the tree at the former
-      ends : (u w : ℕ) → Row rd w → w < v → Ancestor rd u w → (at m u < at m w) × (lastRow td (at m w) ≤ lastRow td (at m u))
-      ends u w q i a =
-          let b = (ih w u i q) .0 a in (b .0, inside-ends td (at m u) (at m w) (image-row u (omega arith) (omega arith)) (omega arith) (b .1))
-
-      lies-above : ParentView rd v → (u : ℕ) → Ancestor rd u v → (at m u < t) × (t ≤ lastRow td (at m u))
-      lies-above (root z d f) u a = absurd (f u a)
-      lies-above (child p) u a = go (p .above .1) (compared u (parent rd v))
-        where
-          go : parent rd v < v → Compared u (parent rd v) → (at m u < t) × (t ≤ lastRow td (at m u))
-          go i (less h) = omega (arith, start, ends u (parent rd v) (omega arith) i (above-above rd kr u (parent rd v) v r a i h))
-          go i (same h) = rw h (start, high)
-          go i (more h) = absurd (omega (arith, p .nearest u a))
-
-      lies-left : LeftView rd v → (u : ℕ) → LeftOf rd u v → lastRow td (at m u) < t
-      lies-left (first e d f) u a = let b = f u a in omega (arith, start, (ih (parent rd v) u (omega arith) (omega arith)) .1 b)
-      lies-left (next l) u a = go (l .left) (compared u (leftSibling rd v))
-        where
-          behind : lastRow td (at m (leftSibling rd v)) < t
-          behind = omega (arith, lowest-next rd td m v (l .left .0))
-
-          go : LeftOf rd (leftSibling rd v) v → Compared u (leftSibling rd v) → lastRow td (at m u) < t
-          go i (less h) = before (later rd kr u (leftSibling rd v) (omega arith) (omega arith) h)
-            where
-              before : Later rd kr u (leftSibling rd v) → lastRow td (at m u) < t
-              before (in-tree b) = absurd (omega (arith, l .last u a))
-              before (past-tree b) = omega (arith, behind, (ih (leftSibling rd v) u (i .1) (omega arith)) .1 b)
-          go i (same h) = rw h behind
-          go i (more h) = after (later rd kr (leftSibling rd v) u (omega arith) (omega arith) h)
-            where
-              after : Later rd kr (leftSibling rd v) u → lastRow td (at m u) < t
-              after (in-tree b) = omega (arith, behind, ends (leftSibling rd v) u (omega arith) (a .1) b)
-              after (past-tree b) = absurd (omega (arith, l .last u a))
-
-    lies : (b v t u : ℕ) → v < b → Row rd v → v ≤ suc n → lowest rd td m v ≤ t → t ≤ highest rd td m v → Lies v t u
-    lies zero v t u h r o low high = absurd (omega arith)
-    lies (suc b) v t u h r o low high =
-        let ih : (w x : ℕ) → w < v → Row rd w → Lies w (at m w) x =
-        λ w x i q. let j = image-in w q (omega arith) in lies b w (at m w) x (omega arith) q (omega arith) (j .0) (j .1) in
-        (lies-above v t r o low high ih (parent-view rd kr v r) u, lies-left v t r o low high ih (left-view rd kr v r) u)
-
-    -- so the log tells of the whole window of the next row, if that has a mark
-    pub marked-window : (ls : List ℕ) → suc n ≤ length rd → Marked Fit rd td ls m n → 1 ≤ at m (suc n) → (t : ℕ) → lowest rd td m (suc n) ≤ t → t ≤ highest rd td m (suc n)
-        → (logged ls t ≤ at m (suc n)) ↔ Within Fit rd td (suc n) t
-    marked-window ls fits k a t low high =
-        let (v, b, l, f) = k .told (suc n) (omega arith) fits a in
-        let x : (u : ℕ) → Lies (suc n) t u = λ u. lies (suc (suc n)) (suc n) t u (omega arith) (omega arith) (omega arith) low high in
-        let y = (x v) .0 b in
-        f t (omega arith) (y .1) (λ u h c. (x u) .1 c)
+  -- the log tells of the whole window of the row after the placed ones, if that has a mark
+  pub marked-window : (m : List ℕ) (n : ℕ) → Placed Fit rd td m n → (ls : List ℕ) → suc n ≤ length rd → Marked Fit rd td ls m n → 1 ≤ at m (suc n) → (t : ℕ)
+      → lowest rd td m (suc n) ≤ t → t ≤ highest rd td m (suc n) → (logged ls t ≤ at m (suc n)) ↔ Within Fit rd td (suc n) t
+  marked-window m n done ls fits k a t low high =
+      let (v, b, l, f) = k .told (suc n) (omega arith) fits a in
+      let x = keeps-next Fit rd td kr kt m n done fits t low high in
+      let y = (x v) .0 b in
+      f t (omega arith) (omega arith) (λ u h c. (x u) .1 c)

@@ -18,7 +18,7 @@ use Rattle.matching.specs.Shape.{word}
 use Rattle.matching.specs.Room.{recipeOf, sameLabel}
 use Rattle.matching.specs.Engine.{Ready, treeAt, cornerOf}
 use Rattle.matching.proofs.FirstIn.{enter, here, widen}
-use Rattle.matching.proofs.Held.{held-tree}
+use Rattle.matching.proofs.Held.{held-root, held-tree}
 use Rattle.matching.proofs.TreeRow.{tree-row}
 use Rattle.matching.proofs.TreeJoins.{corner-of-fits}
 
@@ -68,14 +68,8 @@ module _ (ws rl td tl : List ℕ) (k : Ready ws rl td tl) (v : ℕ) (r : Row (re
       pub found-here : (HeldIn Fit rd td v (suc (suc first)) last → ⊥) → OnLevel w → FirstIn td (Holds Fit rd td v) (suc first) last (suc first)
       found-here none o =
           here td (k .listing .outline) (Holds Fit rd td v) (suc first) last (omega arith) (omega arith) ends (λ y a b p. none (y, a, b, p))
-          (root ((held-tree Fit rd td (k .outline) (k .listing .outline) v r (suc first) row) .1 ((level-lies (treeAt td first) w q) .0 o)))
-        where
-          root : HeldIn Fit rd td v (suc first) last → Holds Fit rd td v (suc first)
-          root (y, a, b, p) = go (decLe y (suc first))
-            where
-              go : Dec (y ≤ suc first) → Holds Fit rd td v (suc first)
-              go (yes i) = let e : y ≡ suc first = omega arith in rw e at p
-              go (no i) = absurd (none (y, omega arith, b, p))
+          (held-root Fit rd td v (suc first) last
+          ((held-tree Fit rd td (k .outline) (k .listing .outline) v r (suc first) row) .1 ((level-lies (treeAt td first) w q) .0 o)) none)
 
   -- of the rows behind `from` rows none of the first holds it, up to row `first`. Then none up to row `last`, ..
   module _ (from first last : ℕ) (low : from ≤ first) (none : HeldIn Fit rd td v (suc from) first → ⊥) where

@@ -13,17 +13,19 @@ use Rattle.rows.specs.Rows.{at, Row, Outline, depth, lastRow}
 use Rattle.rows.specs.Embedding.{Included}
 use Rattle.matching.specs.Family.{parent, leftSibling}
 use Rattle.matching.specs.EarliestClose.{Holds}
-use Rattle.matching.specs.Placing.{Placed, barred, lowest, highest, HeldIn, Closed, FirstIn}
+use Rattle.matching.specs.Placing.{Placed, barred, lowest, highest, HeldIn, HeldDeep, Closed, FirstIn}
 use Rattle.matching.specs.Asked.{chain}
 use Rattle.matching.specs.Shape.{Shape}
 use Rattle.matching.specs.Linked.{Climbs}
 use Rattle.matching.specs.Path.{logBytes, logged, PathAsked, Within, Logged, Marks, Marked}
 use Rattle.matching.specs.Images.{Cleared, Begun, Stage}
 use Rattle.matching.specs.Room.{roomWords}
-use Rattle.matching.proofs.Family.{parent-before, left-before}
+use Rattle.rows.proofs.Depths.{inside-deeper}
+use Rattle.rows.proofs.Order.{window}
+use Rattle.matching.proofs.Family.{parent-before, left-before, ParentView, root, child, parent-view}
 use Rattle.matching.proofs.FirstIn.{narrow}
 use Rattle.matching.proofs.Marks.{told-some, told-first, marked-none, marked-kept, marks-images, marks-placed, marked-pass, marked-window}
-use Rattle.matching.proofs.Placing.{highest-fits, window-closed, placed-next}
+use Rattle.matching.proofs.Placing.{behind-parent, highest-fits, window-closed, placed-next}
 use Rattle.matching.proofs.Offers.{held-next}
 
 -- the last row barred, without and with a left sibling
@@ -52,6 +54,22 @@ barred-one rd td m = ap (λ (s : ℕ). barred td m s 0) (none (eqb (depth rd 0) 
     none false = refl
 
 module _ (Fit : ℕ → ℕ → Type 0) (rd td : List ℕ) (kr : Outline rd) (kt : Outline td) (inc : Included Fit rd td) where
+  -- no image stands higher than its row
+  image-deep : (m : List ℕ) (n : ℕ) → Placed Fit rd td m n → (b u : ℕ) → u < b → Row rd u → u ≤ n → depth rd u ≤ depth td (at m u)
+  image-deep m n placed zero u h r o = absurd (omega arith)
+  image-deep m n placed (suc b) u h r o = go (parent-view rd kr u r) (image-deep m n placed b (parent rd u))
+    where
+      go : ParentView rd u → (parent rd u < b → Row rd (parent rd u) → parent rd u ≤ n → depth rd (parent rd u) ≤ depth td (at m (parent rd u))) → depth rd u ≤ depth td (at m u)
+      go (root z d f) ih = omega (arith, d)
+      go (child p) ih =
+          let q = p .above in
+          let a = placed u r o .allowed in
+          let x : Row rd (parent rd u) = omega (arith, q) in
+          let y : parent rd u ≤ n = omega (arith, q) in
+          let k = placed (parent rd u) x y .allowed .row in
+          let w = (window td kt (at m (parent rd u)) (at m u) k (a .row)) .0 (a .below (λ z. omega (arith, q))) in
+          omega (arith, p .step, ih (omega (arith, q)) x y, inside-deeper td (at m (parent rd u)) (at m u) (k .0) (w .0) (w .1))
+
   -- the window of the row behind the n placed ones begins behind `from` rows
   module _ (m : List ℕ) (n from : ℕ) (placed : Placed Fit rd td m n) (more : n < length rd) (ef : from ≡ barred td m (leftSibling rd (suc n)) (parent rd (suc n))) where
     abbrev hi : ℕ
@@ -70,8 +88,20 @@ module _ (Fit : ℕ → ℕ → Type 0) (rd td : List ℕ) (kr : Outline rd) (kt
     held : HeldIn Fit rd td (suc n) (suc from) hi
     held = rw low (held-next Fit rd td kr kt m n more placed inc)
 
-    pub held-behind : HeldIn Fit rd td (suc n) (suc from) (length td)
-    held-behind = (held .0, held .1, omega (arith, held .2, end), held .3)
+    -- none of the window's rows stands higher than that row in the recipe
+    deep : (t : ℕ) → suc from ≤ t → t ≤ hi → depth rd (suc n) ≤ depth td t
+    deep t a b = go (parent-view rd kr (suc n) (omega arith))
+      where
+        go : ParentView rd (suc n) → depth rd (suc n) ≤ depth td t
+        go (root z d f) = omega (arith, d)
+        go (child p) =
+            let q = p .above in
+            let x : Row rd (parent rd (suc n)) = omega (arith, q) in
+            let y : parent rd (suc n) ≤ n = omega (arith, q) in
+            omega (arith, p .step, image-deep m n placed (suc n) (parent rd (suc n)) (q .1) x y, inside-deeper td (at m (parent rd (suc n))) t (placed (parent rd (suc n)) x y .allowed .row .0) (omega (arith, low, behind-parent Fit rd td kr kt m n more placed)) b)
+
+    pub held-behind : HeldDeep Fit rd td (suc n) (suc from) (length td)
+    held-behind = (held .0, held .1, omega (arith, held .2, end), held .3, λ y a b. deep y a (omega (arith, held .2)))
 
     -- .. and the first to close behind the window's beginning is in the window
     pub placed-one : (t : ℕ) → n < length m → FirstIn td (Holds Fit rd td (suc n)) (suc from) (length td) t → Placed Fit rd td (set m n t) (suc n)
@@ -163,7 +193,7 @@ module _ (Fit : ℕ → ℕ → Type 0) (rd td : List ℕ) (kr : Outline rd) (kt
     begins : from ≡ barred td m (leftSibling rd (suc n)) (parent rd (suc n))
     begins = subst (λ (u : ℕ). from ≡ barred td m (leftSibling rd u) (parent rd u)) next ef
 
-    pub row-held : HeldIn Fit rd td v (suc from) (length td)
+    pub row-held : HeldDeep Fit rd td v (suc from) (length td)
     row-held = rw next (held-behind m n from (s .placed) more begins)
 
     pub row-logged : 1 ≤ at m v → (y : ℕ) × (suc from ≤ y) × (y ≤ length td) × (logged ls y ≤ at m v)

@@ -14,7 +14,7 @@ use denote.Builtin.{u8, u16, u32, usize}
 use denote.Ref.{RefT, ShrRef, MutRef, ptr-vals, mut-tells, shr-tells}
 use denote.Slice.{ShrSlice, slice-vals, shr-slice-tells}
 use Rattle.rows.specs.Embedding.{SameLabel}
-use Rattle.matching.specs.Placing.{HeldIn}
+use Rattle.matching.specs.Placing.{HeldDeep}
 use Rattle.matching.specs.Asked.{chain}
 use Rattle.matching.specs.Path.{logBytes, PathAsked}
 use Rattle.matching.specs.Room.{recipeOf, roomWords}
@@ -88,7 +88,7 @@ module _ (t : Rest) where
     Good = Ready shape labels td names × PathAsked recipe asked rows
 
     abbrev pub Held : ℕ → ℕ → Type 0
-    Held first end = HeldIn (SameLabel labels names) recipe td (chain asked 0) (suc first) end
+    Held first end = HeldDeep (SameLabel labels names) recipe td (chain asked 0) (suc first) end
 
     -- row r is found, and us, ss and ms are the last words of asked, room and log
     abbrev pub First : ℕ → ℕ → ℕ → List ℕ → List ℕ → List ℕ → Type 0

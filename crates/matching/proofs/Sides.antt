@@ -4,7 +4,6 @@ use mathlib.Core.List.{List}
 use Prim.Native.Nat.{ℕ, _≤_, _<_}
 use native.Mathlib.Omega.{arith}
 use Rattle.rows.specs.Rows.{Row, Outline, closing, Ancestor, LeftOf}
-use Rattle.rows.proofs.Depths.{inside-ends}
 use Rattle.rows.proofs.Order.{Compared, less, same, more, compared, Later, in-tree, past-tree, later, window, behind-window}
 
 module _ (ds : List ℕ) (k : Outline ds) where
@@ -13,18 +12,6 @@ module _ (ds : List ℕ) (k : Outline ds) where
   above-above u p v r a o i =
       let w = (window ds k u v (omega arith) r) .0 a in
       (window ds k u p (omega arith) (omega arith)) .1 (i, omega arith)
-
-  -- what is left of a row is left of all below it, and what is below a row is left of all that the row is left of
-  pub left-above : (u w v : ℕ) → Row ds v → LeftOf ds u w → Ancestor ds w v → LeftOf ds u v
-  left-above u w v r l a =
-      let o = (behind-window ds k u w (omega arith) (omega arith)) .0 l in
-      (behind-window ds k u v (omega arith) r) .1 (omega arith)
-
-  pub above-left : (u w v : ℕ) → Row ds w → Row ds v → Ancestor ds u w → LeftOf ds u v → LeftOf ds w v
-  above-left u w v q r a l =
-      let o = (behind-window ds k u v (omega arith) r) .0 l in
-      let i = (window ds k u w (omega arith) q) .0 a in
-      (behind-window ds k w v q r) .1 (omega (arith, inside-ends ds u w (omega arith) (omega arith) (i .1)))
 
   -- no two rows close together
   pub one-closing : (u v : ℕ) → Row ds u → Row ds v → closing ds u ≡ closing ds v → u ≡ v

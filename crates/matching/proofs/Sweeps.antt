@@ -10,7 +10,7 @@ use Rattle.rows.specs.Forest.{size, forestAt}
 use Rattle.rows.specs.Embedding.{SameLabel}
 use Rattle.rows.proofs.Windows.{at-step, window-at}
 use Rattle.matching.specs.Asked.{Asked, Keep, chain}
-use Rattle.matching.specs.Placing.{HeldIn}
+use Rattle.matching.specs.Placing.{HeldIn, HeldDeep}
 use Rattle.matching.specs.Room.{recipeOf, roomWords}
 use Rattle.matching.specs.Path.{logBytes, PathAsked, Kept}
 use Rattle.matching.specs.Engine.{Ready, Begins, Sought, Found, Passed}
@@ -29,6 +29,12 @@ pub record Clear (ws rl td tl asked ls : List ℕ) (l first : ℕ) (us ss ms : L
   pub words : length ss ≡ roomWords
   pub kept : Kept ls (suc first) r ms
   pub none : HeldIn (SameLabel rl tl) (recipeOf ws rl) td (chain asked 0) (suc first) r → ⊥
+
+pub held-in : {Fit : ℕ → ℕ → Type 0} {rd td : List ℕ} {v lo hi : ℕ} → HeldDeep Fit rd td v lo hi → HeldIn Fit rd td v lo hi
+held-in (t, a, b, h, d) = (t, a, b, h)
+
+lower : (e d : ℕ) → e ≤ d → 64 - d ≤ 64 - e
+lower e d o = omega arith
 
 -- the search stands behind r rows, or has found a row
 pub record Sweep (ws rl td tl asked ls : List ℕ) (l first : ℕ) (us ss ms : List ℕ) (r : ℕ) : Type 0 where
@@ -70,7 +76,14 @@ module _ {ws rl td tl : List ℕ} (k : Ready ws rl td tl) {asked ls : List ℕ} 
             logged = f .logged;
           }
 
-    -- else the next forest is passed
+    pub sweep-deep : {end : ℕ} → r ≤ length td → (h : HeldDeep (SameLabel rl tl) (recipeOf ws rl) td (chain asked 0) (suc first) end) → depth (recipeOf ws rl) (chain asked 0) ≤ depth td (suc r)
+    sweep-deep o h = go (decLe (h .0) r)
+      where
+        go : Dec (h .0 ≤ r) → depth (recipeOf ws rl) (chain asked 0) ≤ depth td (suc r)
+        go (yes i) = absurd (s .clear o .none (h .0, h .1, i, h .3))
+        go (no i) = h .4 (suc r) (omega (arith, s .clear o .start)) (omega arith)
+
+    -- else the next forest is passed, which stands no higher than the row sought
     module _ (n : r < length td) where
       c : Clear ws rl td tl asked ls l first us ss ms r
       c = s .clear (omega arith)
@@ -81,9 +94,9 @@ module _ {ws rl td tl : List ℕ} (k : Ready ws rl td tl) {asked ls : List ℕ} 
       pub sweep-sought : Sought ws rl us l l
       sweep-sought = record { some = p .some; few = omega arith; low = p .low; path = path-same (recipeOf ws rl) asked us l (c .keep) (p .path) }
 
-      pub sweep-begins : (d : ℕ) → Begins ws rl us ss 0 l d
-      sweep-begins d =
-          record { chains = c .chains; words = c .words; room = room-below (length (recipeOf ws rl)) l 64 d roomWords (p .room) }
+      pub sweep-begins : (d : ℕ) → depth (recipeOf ws rl) (chain asked 0) ≤ d → Begins ws rl us ss 0 l d
+      sweep-begins d o =
+          record { chains = c .chains; words = c .words; room = room-below (length (recipeOf ws rl)) l (64 - d) (64 - depth (recipeOf ws rl) (chain asked 0)) roomWords (lower (depth (recipeOf ws rl) (chain asked 0)) d o) (p .room) }
 
       abbrev d : ℕ
       d = depth td (suc r)

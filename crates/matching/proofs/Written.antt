@@ -40,7 +40,7 @@ room-grows m p q r (suc n) h l = omega (arith, room-grows m p (min m (q + q)) (m
 pub room-more : (m q p n : ℕ) → q ≤ p → roomFor m q n ≤ roomFor m p n
 room-more m q p n h = room-grows m m q p n (omega arith) h
 
--- there is room for any path of a recipe of up to 228 rows, and for one row of any recipe
+-- there is room for any path of a recipe of up to 228 rows, for one row of any recipe, and for 15 of any recipe behind four levels
 pub room-small : (m q : ℕ) → m ≤ 228 → q ≤ m → roomFor m q 64 ≤ roomWords
 room-small m q h l = room-grows m 228 q 228 64 h (omega arith)
 
@@ -50,14 +50,23 @@ room-one m q h l = within (roomFor m q 64) (room-grows m 256 q 1 64 h l)
     within : (n : ℕ) → n ≤ 14591 → n ≤ roomWords
     within n o = omega arith
 
+pub room-deep : (m q : ℕ) → m ≤ 256 → q ≤ 15 → roomFor m q 60 ≤ roomWords
+room-deep m q h l = within (roomFor m q 60) (room-grows m 256 q 15 60 h l)
+  where
+    within : (n : ℕ) → n ≤ 14545 → n ≤ roomWords
+    within n o = omega arith
+
 -- nor do fewer levels need more
 pub room-levels : (m q n p : ℕ) → n ≤ p → roomFor m q n ≤ roomFor m q p
 room-levels m q zero p h = omega arith
 room-levels m q (suc n) zero h = absurd (omega arith)
 room-levels m q (suc n) (suc p) h = omega (arith, room-levels m (min m (q + q)) n p (omega arith))
 
-pub room-below : (m q n d w : ℕ) → roomFor m q n ≤ w → 0 + roomFor m q (n - d) ≤ w
-room-below m q n d w h = omega (arith, room-levels m q (n - d) n (omega arith))
+pub room-fewer : (m q n p w : ℕ) → n ≤ p → roomFor m q p ≤ w → roomFor m q n ≤ w
+room-fewer m q n p w l h = omega (arith, room-levels m q n p l)
+
+pub room-below : (m q n p w : ℕ) → n ≤ p → roomFor m q p ≤ w → 0 + roomFor m q n ≤ w
+room-below m q n p w l h = omega (arith, room-levels m q n p l)
 
 -- the corner on the chain after a, where there is no such chain, and where there is
 module _ (ws asked rs : List ℕ) (base a y : ℕ) (e : y ≡ word 1 ws a) where

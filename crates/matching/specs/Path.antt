@@ -7,7 +7,7 @@ use mathlib.Core.Logic.{_↔_}
 use Prim.Native.Nat.{ℕ, suc, _+_, _-_, _/_, _%_, _≤_, _<_}
 use lib.Dec.{leb}
 use lib.ListN.{length, getD, drop}
-use Rattle.rows.specs.Rows.{at, Row, descendants, lastRow, Ancestor, LeftOf}
+use Rattle.rows.specs.Rows.{at, Row, depth, descendants, lastRow, Ancestor, LeftOf}
 use Rattle.matching.specs.Family.{parent}
 use Rattle.matching.specs.Placing.{HeldIn}
 use Rattle.matching.specs.Shape.{word}
@@ -20,13 +20,14 @@ pub record Path (rd asked : List ℕ) (k : ℕ) : Type 0 where
   pub inner : (i : ℕ) → i < k → 1 ≤ descendants rd (chain asked i)
   pub down : (i : ℕ) → suc i < k → parent rd (chain asked (suc i)) ≡ chain asked i
 
--- all chains asked are a path of at most 15 rows, and there is room for the levels of a pass with it
+-- all chains asked are a path of at most 15 rows, and there is room for the levels of a pass with it that begins no higher than its first
+-- row stands
 pub record PathAsked (rd asked : List ℕ) (k : ℕ) : Type 0 where
   pub some : 1 ≤ k
   pub low : k ≤ 15
   pub chains : Asked (length rd) asked k
   pub path : Path rd asked k
-  pub room : roomFor (length rd) k 64 ≤ roomWords
+  pub room : roomFor (length rd) k (64 - depth rd (chain asked 0)) ≤ roomWords
 
 -- the tree at listing row t includes recipe row v with all its descendants
 abbrev pub Within : (ℕ → ℕ → Type 0) → List ℕ → List ℕ → ℕ → ℕ → Type 0

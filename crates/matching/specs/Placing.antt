@@ -2,7 +2,7 @@
 use mathlib.Core.Bool.{Bool, true, false}
 use mathlib.Core.List.{List}
 use Prim.Native.Nat.{ℕ, zero, suc, _≤_}
-use Rattle.rows.specs.Rows.{at, Row, lastRow, closing}
+use Rattle.rows.specs.Rows.{at, Row, depth, lastRow, closing}
 use Rattle.matching.specs.Family.{parent, leftSibling}
 use Rattle.matching.specs.EarliestClose.{Holds, Earliest}
 
@@ -26,6 +26,10 @@ highest rd td m v = lastRow td (at m (parent rd v))
 -- one of the rows lo to hi holds v with all its descendants
 abbrev pub HeldIn : (ℕ → ℕ → Type 0) → List ℕ → List ℕ → ℕ → ℕ → ℕ → Type 0
 HeldIn Fit rd td v lo hi = (t : ℕ) × (lo ≤ t) × (t ≤ hi) × Holds Fit rd td v t
+
+-- the same, where no row up to that one stands higher than v does in the recipe
+abbrev pub HeldDeep : (ℕ → ℕ → Type 0) → List ℕ → List ℕ → ℕ → ℕ → ℕ → Type 0
+HeldDeep Fit rd td v lo hi = (t : ℕ) × (lo ≤ t) × (t ≤ hi) × Holds Fit rd td v t × ((y : ℕ) → lo ≤ y → y ≤ t → depth rd v ≤ depth td y)
 
 -- no tree that begins in the rows lo to hi ends behind them
 abbrev pub Closed : List ℕ → ℕ → ℕ → Type 0

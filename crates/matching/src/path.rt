@@ -1,8 +1,8 @@
 // A path down the recipe, whose rows are sought together: a row, of its children the one with the most rows below it, and so on.
 ghost use mathlib.Core.Path.{_≡_};
-ghost use Prim.Native.Nat.{ℕ, _≤_, _<_};
+ghost use Prim.Native.Nat.{ℕ, _≤_, _<_, _-_};
 ghost use lib.ListN.{length};
-ghost use Rattle.rows.specs.Rows.{Row, Outline, descendants};
+ghost use Rattle.rows.specs.Rows.{Row, Outline, depth, descendants};
 ghost use Rattle.matching.specs.Family.{parent};
 ghost use Rattle.matching.specs.Shape.{Shape};
 ghost use Rattle.matching.specs.Asked.{chain};
@@ -12,13 +12,16 @@ use crate::asked::ask;
 use crate::shape::leaf_of;
 use crate::shape::right_of;
 
-// How many rows a path may have: 15, so that a place on it fits half a byte; one alone in a recipe of over 228 rows, so that the levels
-// of a pass have room.
-fn most_rows(recipe: &[u16]) -> usize
+// How many rows a path from row v on may have: 15, so that a place on it fits half a byte; one alone where the levels of a pass might
+// not have room, that is in the upper levels of a recipe of over 228 rows.
+fn most_rows(recipe: &[u16], v: u16) -> usize
     requires { ⌜ length (now recipe) ≤ 256 ⌝ }
-    ensures { λ r. ⌜ (1 ≤ r) × (r ≤ 15) × ((k : ℕ) → k ≤ r → k ≤ length (now (recipe .entry)) → roomFor (length (now (recipe .entry))) k 64 ≤ roomWords) ⌝ }
+    ensures { λ r. ⌜ (1 ≤ r) × (r ≤ 15) × ((k : ℕ) → k ≤ r → k ≤ length (now (recipe .entry)) → roomFor (length (now (recipe .entry))) k (64 - depth (now (recipe .entry)) v) ≤ roomWords) ⌝ }
 {
     if recipe.len() <= 228 {
+        return 15;
+    }
+    if 4 <= rows::depth_of(recipe, rows::Opening(v as usize)) {
         return 15;
     }
     1
@@ -50,7 +53,7 @@ pub(crate) fn ask_path(recipe: &[u16], shape: &[u16; 1028], asked: &mut [u16; 51
     requires { ⌜ length (now asked) ≡ 513 ⌝ }
     ensures { λ r. ⌜ PathAsked (now (recipe .entry)) (now (asked .exit)) r × (chain (now (asked .exit)) 0 ≡ v) ⌝ }
 {
-    let most = most_rows(recipe);
+    let most = most_rows(recipe, v);
     let mut u = v;
     let mut k = 0;
     while k < most {

@@ -8,7 +8,7 @@ ghost use lib.ListN.{length};
 ghost use Rattle.rows.specs.Limits.{listingRows};
 ghost use Rattle.rows.specs.Rows.{at, depth, Outline};
 ghost use Rattle.rows.specs.Embedding.{SameLabel};
-ghost use Rattle.matching.specs.Placing.{HeldIn, FirstIn, latest};
+ghost use Rattle.matching.specs.Placing.{HeldDeep, FirstIn, latest};
 ghost use Rattle.matching.specs.Asked.{chain};
 ghost use Rattle.matching.specs.Path.{logBytes, logged, PathAsked};
 ghost use Rattle.matching.specs.Room.{recipeOf, roomWords};
@@ -102,7 +102,7 @@ pub(crate) fn seek(
     k: usize,
 ) -> usize
     requires { ⌜ Ready (now shape) (now labels) (now depths) (now names) × PathAsked (recipeOf (now shape) (now labels)) (now asked) k ⌝ }
-    requires { ⌜ HeldIn (SameLabel (now labels) (now names)) (recipeOf (now shape) (now labels)) (now depths) (chain (now asked) 0) (suc first) end × Whole (now depths) first end ⌝ }
+    requires { ⌜ HeldDeep (SameLabel (now labels) (now names)) (recipeOf (now shape) (now labels)) (now depths) (chain (now asked) 0) (suc first) end × Whole (now depths) first end ⌝ }
     requires { ⌜ (length (now room) ≡ roomWords) × (length (now log) ≡ logBytes) ⌝ }
     ensures { λ r. ⌜ Found (now (shape .entry)) (now (labels .entry)) (now (depths .entry)) (now (names .entry)) (now (asked .entry)) (now (log .entry)) k first end r (now (asked .exit)) (now (room .exit)) (now (log .exit)) ⌝ }
 {

@@ -3,7 +3,7 @@ ghost use mathlib.Core.Path.{_≡_};
 ghost use Prim.Native.Nat.{suc};
 ghost use lib.ListN.{length};
 ghost use Rattle.rows.specs.Embedding.{SameLabel};
-ghost use Rattle.matching.specs.Placing.{HeldIn};
+ghost use Rattle.matching.specs.Placing.{HeldDeep};
 ghost use Rattle.matching.specs.Asked.{chain};
 ghost use Rattle.matching.specs.Path.{logBytes, PathAsked};
 ghost use Rattle.matching.specs.Room.{recipeOf, roomWords};
@@ -41,7 +41,7 @@ fn seek_in<'a>(
     k: usize,
 ) -> usize
     requires { ⌜ Ready (now shape) (now labels) (now (window .depths)) (now names) × PathAsked (recipeOf (now shape) (now labels)) (now asked) k ⌝ }
-    requires { ⌜ HeldIn (SameLabel (now labels) (now names)) (recipeOf (now shape) (now labels)) (now (window .depths)) (chain (now asked) 0) (suc (window .first)) (window .end) × Whole (now (window .depths)) (window .first) (window .end) ⌝ }
+    requires { ⌜ HeldDeep (SameLabel (now labels) (now names)) (recipeOf (now shape) (now labels)) (now (window .depths)) (chain (now asked) 0) (suc (window .first)) (window .end) × Whole (now (window .depths)) (window .first) (window .end) ⌝ }
     requires { ⌜ (length (now room) ≡ roomWords) × (length (now log) ≡ logBytes) ⌝ }
     ensures { λ r. ⌜ Found (now (shape .entry)) (now (labels .entry)) (now (window .entry .depths)) (now (names .entry)) (now (asked .entry)) (now (log .entry)) k (window .entry .first) (window .entry .end) r (now (asked .exit)) (now (room .exit)) (now (log .exit)) ⌝ }
 {
@@ -73,7 +73,7 @@ pub(crate) fn seek_behind(
     k: usize,
 ) -> usize
     requires { ⌜ Ready (now shape) (now labels) (now depths) (now names) × PathAsked (recipeOf (now shape) (now labels)) (now asked) k ⌝ }
-    requires { ⌜ HeldIn (SameLabel (now labels) (now names)) (recipeOf (now shape) (now labels)) (now depths) (chain (now asked) 0) (suc first) (length (now depths)) ⌝ }
+    requires { ⌜ HeldDeep (SameLabel (now labels) (now names)) (recipeOf (now shape) (now labels)) (now depths) (chain (now asked) 0) (suc first) (length (now depths)) ⌝ }
     requires { ⌜ (length (now room) ≡ roomWords) × (length (now log) ≡ logBytes) ⌝ }
     ensures { λ r. ⌜ Found (now (shape .entry)) (now (labels .entry)) (now (depths .entry)) (now (names .entry)) (now (asked .entry)) (now (log .entry)) k first (length (now (depths .entry))) r (now (asked .exit)) (now (room .exit)) (now (log .exit)) ⌝ }
 {

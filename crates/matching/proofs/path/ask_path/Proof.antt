@@ -1,11 +1,12 @@
 -- `matching::path::ask_path` meets its contract: row by row down the recipe, as long as there is one with rows below it. Assumes nothing.
-use mathlib.Core.Path.{_≡_, sym, _∙_}
-use Prim.Native.Nat.{suc, _≤_, _-_}
+use mathlib.Core.Path.{_≡_, sym, subst, _∙_}
+use Prim.Native.Nat.{ℕ, suc, _≤_, _-_}
 use native.Mathlib.Omega.{arith}
 use lib.ListN.{length}
-use Rattle.rows.specs.Rows.{descendants}
+use Rattle.rows.specs.Rows.{depth, descendants}
 use Rattle.matching.specs.Asked.{chain}
 use Rattle.matching.specs.Path.{PathAsked}
+use Rattle.matching.specs.Room.{roomWords, roomFor}
 use Rattle.matching.proofs.AskedLaws.{asked-few, asked-more}
 use Rattle.matching.proofs.Asking.{leaf-bare, inner-row, Asking, asking-none, asking-begun, asking-one, asked-one}
 use Rattle.matching.proofs.path.ask_path.Statement.{statement}
@@ -29,8 +30,9 @@ inner c =
 asked : (c : tie.At-loop Inv-loop μ-loop) → 1 ≤ c .loop .k → let a = c .before .before .before .args in
     PathAsked (a .recipe .now) (c .loop .asked) (c .loop .k) × (chain (c .loop .asked) 0 ≡ a .v)
 asked c o =
+    let a = c .before .before .before .args in
     let i = c .loop .inv .1 in
-    (record { some = o; low = omega (arith, c .before .most-rows .ensures .1, c .loop .inv .0); chains = i .chains; path = i .path; room = c .before .most-rows .ensures .2 (c .loop .k) (c .loop .inv .0) (asked-few _ _ _ (i .chains)) }, i .first o)
+    (record { some = o; low = omega (arith, c .before .most-rows .ensures .1, c .loop .inv .0); chains = i .chains; path = i .path; room = subst (λ (u : ℕ). roomFor (length (a .recipe .now)) (c .loop .k) (64 - depth (a .recipe .now) u) ≤ roomWords) (sym (i .first o)) (c .before .most-rows .ensures .2 (c .loop .k) (c .loop .inv .0) (asked-few _ _ _ (i .chains))) }, i .first o)
 
 most-rows-requires : tie.Need-most-rows-requires Inv-loop μ-loop
 most-rows-requires c κs = c .before .pre .0 .0 .few

@@ -2,7 +2,7 @@
 use Prim.Native.Nat.{_-_, _<_}
 use native.Mathlib.Omega.{arith}
 use lib.ListN.{length}
-use Rattle.matching.proofs.Sweeps.{Sweep, sweep-none, sweep-beyond, sweep-end, sweep-size, sweep-sought, sweep-begins, sweep-next, sweep-less}
+use Rattle.matching.proofs.Sweeps.{Sweep, sweep-none, sweep-beyond, sweep-end, sweep-size, sweep-sought, sweep-begins, sweep-deep, held-in, sweep-next, sweep-less}
 use Rattle.matching.proofs.seek.seek.Statement.{statement}
 use Rattle.matching.proofs.seek.seek.Tie as tie
 
@@ -25,7 +25,7 @@ forest-corners-requires c κs =
     let g = start .pre in
     let s = turn .loop .inv in
     let n : turn .loop .at < length (start .args .depths .now) = omega (arith, c .before .before .before .loop-test .taken, g .1 .0 .1 .0) in
-    ((g .0 .0, n, sweep-sought (g .0 .0) (g .0 .1) s n), (sweep-begins (g .0 .0) (g .0 .1) s n _, sweep-size (g .0 .0) (g .0 .1) s n))
+    ((g .0 .0, n, sweep-sought (g .0 .0) (g .0 .1) s n), (sweep-begins (g .0 .0) (g .0 .1) s n _ (sweep-deep (g .0 .0) (g .0 .1) s (omega (arith, n)) (g .1 .0 .0)), sweep-size (g .0 .0) (g .0 .1) s n))
 
 loop-less : tie.Need-loop-less Inv-loop μ-loop
 loop-less c =
@@ -46,12 +46,12 @@ loop-again c =
 sub-result : tie.Need-sub-result Inv-loop μ-loop
 sub-result c =
     let g = c .before .before .before .before .before .pre in
-    omega (arith, sweep-beyond (g .0 .0) (g .0 .1) (c .before .loop .inv) (g .1 .0 .0) (g .1 .0 .1) (c .loop-test .left))
+    omega (arith, sweep-beyond (g .0 .0) (g .0 .1) (c .before .loop .inv) (held-in (g .1 .0 .0)) (g .1 .0 .1) (c .loop-test .left))
 
 returns : tie.Need-returns Inv-loop μ-loop
 returns c =
     let g = c .before .before .before .before .before .pre in
-    sweep-end (g .0 .0) (g .0 .1) (c .before .loop .inv) (g .1 .0 .0) (g .1 .0 .1) (c .loop-test .left)
+    sweep-end (g .0 .0) (g .0 .1) (c .before .loop .inv) (held-in (g .1 .0 .0)) (g .1 .0 .1) (c .loop-test .left)
 
 pub seek-spec : {M : Type 1} → statement M
 seek-spec =
