@@ -30,7 +30,7 @@ static u32 next(u32 below)
 enum { PATH = 15, PATH_RECIPE = 228, PATH_DEPTH = 4 };
 static u16 parent[RECIPE + 1], right[RECIPE + 1], left[RECIPE + 1], leaf[RECIPE + 1], deep[RECIPE + 1];
 static u16 asked[RECIPE], place[RECIPE + 1], room[ROOM], mark[RECIPE + 1];
-static unsigned char logged[LISTING];
+static unsigned char logged[LISTING], kinds[128]; /* eight labels that follow each other are of one kind */
 static u16 last[LISTING + 1];
 
 static void build(void)
@@ -44,6 +44,10 @@ static void build(void)
         right[v] = 0, deep[v] = (u16)d;
         open[d] = before[d] = (u16)v, before[d + 1] = 0;
     }
+    for (int i = 0; i < 128; i++)
+        kinds[i] = 0;
+    for (int v = m; v; v--)
+        kinds[rl[v - 1] / 8 % 128] = 1;
     for (int v = m; v; v--)
         leaf[v] = v < m && rd[v] > rd[v - 1] ? leaf[v + 1] : (u16)v;
 }
@@ -72,7 +76,7 @@ static int tree_corners(int base, int q, int k, int first)
     u32 name = tl[first];
     if (first + 1 >= n || td[first + 1] <= td[first]) {
         if (k > 1) logged[first] = PATH;
-        for (int i = 0; i < q; i++) {
+        for (int i = 0; kinds[name / 8 % 128] && i < q; i++) {
             u16 a = room[base + i], y = right[a], w = a ? y ? close_row(name, y, 0) : 0 : close_row(name, asked[i], 0);
             if (!a || (w && deep[w] == deep[a])) room[base + i] = w;
         }

@@ -15,7 +15,7 @@ use Rattle.matching.specs.Family.{rightSibling}
 use Rattle.matching.specs.Corner.{CornerIs, WholeCorner}
 use Rattle.matching.specs.EarliestClose.{EarliestClose}
 use Rattle.matching.specs.CornerRow.{cornerAt, widthAt, rowAt}
-use Rattle.matching.specs.Shape.{word, Shape}
+use Rattle.matching.specs.Shape.{word, Shape, Kinds}
 use Rattle.matching.specs.Room.{recipeOf, sameLabel}
 use Rattle.matching.specs.Engine.{Ready, cornerOf}
 use Rattle.matching.specs.declared.Answer.{Answer}
@@ -58,8 +58,8 @@ module _ (rd rl td tl m : List ℕ) (g : GoodTables rd rl td tl) (room : length 
   kt : Outline td
   kt = g .listing-formed .outline
 
-  pub ready : Ready ws rl td tl
-  ready = record { outline = rw recipe-is kr; shape = rw recipe-is k; listing = g .listing-formed; names = sym (g .listing-slices); few = g .listing-few }
+  pub ready : Kinds rl ws → Ready ws rl td tl
+  ready kinds = record { outline = rw recipe-is kr; shape = rw recipe-is k; kinds = kinds; listing = g .listing-formed; names = sym (g .listing-slices); few = g .listing-few }
 
   fine : includeCheck rd rl td tl m ≡ Fine
   fine = check-fine rd rl td tl m ((tables-fine rd rl td tl) .1 g) room

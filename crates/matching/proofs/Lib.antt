@@ -17,6 +17,7 @@ pub mod Held
 pub mod Holds
 pub mod JudgeLaws
 pub mod Keeps
+pub mod KindLaws
 pub mod LeftLeaf
 pub mod Level
 pub mod Lies

@@ -47,7 +47,7 @@ right-within rd v = go (right rd v)
     go (next p l s) = omega arith
 
 -- row 0's words are stored, but for its right sibling
-pub clear-root : (rd ws : List ℕ) → length rd ≤ 256 → length ws ≡ 1028 → Rooted rd (set (set (set ws 0 0) 2 0) 3 0)
+pub clear-root : (rd ws : List ℕ) → length rd ≤ 256 → length ws ≡ 1156 → Rooted rd (set (set (set ws 0 0) 2 0) 3 0)
 clear-root rd ws few size = record {
   few = few;
   size = simp length-set size;
@@ -100,7 +100,7 @@ link-start rd ws k = record {
 abbrev stored : List ℕ → ℕ → ℕ → ℕ → ℕ → List ℕ
 stored ws v left up d = set (set (set (set ws (4 * left + 1) v) (4 * v) up) (4 * v + 1) 0) (4 * v + 3) d
 
-module _ (ws : List ℕ) (v left up d : ℕ) (size : length ws ≡ 1028) (fits : v ≤ 256) (o : left < v) where
+module _ (ws : List ℕ) (v left up d : ℕ) (size : length ws ≡ 1156) (fits : v ≤ 256) (o : left < v) where
   -- a word that is not stored stays ..
   kept : (i : ℕ) → i ≢ 4 * left + 1 → i ≢ 4 * v → i ≢ 4 * v + 1 → i ≢ 4 * v + 3 → getD (stored ws v left up d) i 0 ≡ getD ws i 0
   kept i n₀ n₁ n₂ n₃ = simp getD-set-other

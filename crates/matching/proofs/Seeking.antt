@@ -29,7 +29,7 @@ Rest = RefT (List ℕ) × (RefT (List ℕ) × (RefT (List ℕ) × (RefT (List �
 -- their types, and how each spells its machine values
 abbrev pub rest-types : Lfts 7 → List RattleType
 rest-types κs =
-    ShrSlice (named 1) (κs .1 .0) u32 ∷ ShrRef (named 2) (κs .1 .1 .0) (Array u16 1028) ∷ ShrSlice (named 3) (κs .1 .1 .1 .0) u32
+    ShrSlice (named 1) (κs .1 .0) u32 ∷ ShrRef (named 2) (κs .1 .1 .0) (Array u16 1156) ∷ ShrSlice (named 3) (κs .1 .1 .1 .0) u32
     ∷ MutRef (named 4) (κs .1 .1 .1 .1 .0) (Array u16 513) ∷ MutRef (named 5) (κs .1 .1 .1 .1 .1 .0) (Array u16 14592)
     ∷ MutRef (named 6) (κs .1 .1 .1 .1 .1 .1 .0) (Array u8 2048) ∷ usize ∷ []
 
@@ -40,7 +40,7 @@ pub rest-tells : (κs : Lfts 7) → Tellss (rest-types κs) (Ises (rest-types κ
 rest-tells κs = (
   shr-slice-tells (named 1) (κs .1 .0) u32,
   (
-    shr-tells (named 2) (κs .1 .1 .0) (Array u16 1028),
+    shr-tells (named 2) (κs .1 .1 .0) (Array u16 1156),
     (
       shr-slice-tells (named 3) (κs .1 .1 .1 .0) u32,
       (

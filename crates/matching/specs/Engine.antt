@@ -9,7 +9,7 @@ use Rattle.rows.specs.Forest.{Forest, nil, cons, below}
 use Rattle.rows.specs.Embedding.{SameLabel}
 use Rattle.matching.specs.Family.{rightSibling}
 use Rattle.matching.specs.CornerRow.{joinRow, cornerAt}
-use Rattle.matching.specs.Shape.{Shape}
+use Rattle.matching.specs.Shape.{Shape, Kinds}
 use Rattle.matching.specs.Asked.{Asked, Keep, chain}
 use Rattle.matching.specs.EarliestClose.{Holds}
 use Rattle.matching.specs.Placing.{HeldIn, FirstIn}
@@ -21,6 +21,7 @@ pub record Ready (ws rl td tl : List ℕ) : Type 0 where
   pub outline : Outline (recipeOf ws rl)
   pub shape : Shape (recipeOf ws rl) ws
   pub listing : WellFormed td
+  pub kinds : Kinds rl ws
   pub names : length tl ≡ length td
   pub few : length td ≤ listingRows
 

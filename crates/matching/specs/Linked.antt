@@ -13,7 +13,7 @@ use Rattle.matching.specs.Shape.{word}
 -- there are words for all rows, and row 0's are 0 but for its right sibling
 pub record Rooted (rd ws : List ℕ) : Type 0 where
   pub few : length rd ≤ 256
-  pub size : length ws ≡ 1028
+  pub size : length ws ≡ 1156
   pub parent : word 0 ws 0 ≡ 0
   pub leaf : word 2 ws 0 ≡ 0
   pub depth : word 3 ws 0 ≡ 0
@@ -41,7 +41,7 @@ pub record Climbs (rd ws : List ℕ) (v : ℕ) : Type 0 where
 -- all left-most leaves stand, and of the rows before v the parents, the depths, and the right siblings that are before v too
 pub record Linked (rd ws : List ℕ) (v : ℕ) : Type 0 where
   pub few : length rd ≤ 256
-  pub size : length ws ≡ 1028
+  pub size : length ws ≡ 1156
   pub parents : (u : ℕ) → u < v → word 0 ws u ≡ parent rd u
   pub rights : (u : ℕ) → 1 ≤ u → u < v → word 1 ws u ≡ before v (rightSibling rd u)
   pub leaves : (u : ℕ) → u ≤ length rd → word 2 ws u ≡ leftLeaf rd u

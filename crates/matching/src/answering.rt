@@ -28,7 +28,7 @@ use crate::tables::Tables;
 use crate::tables::check_tables;
 
 // How many rows the first pass seeks: row 1, where it is the only root and has rows below it; else none.
-fn sought_rows(shape: &[u16; 1028]) -> usize
+fn sought_rows(shape: &[u16; 1156]) -> usize
     ensures { λ r. ⌜ (r ≤ 1) × ((1 ≤ r) ↔ ((word 1 (now (shape .entry)) 1 ≡ 0) × (word 2 (now (shape .entry)) 1 ≡ 1 → ⊥))) ⌝ }
 {
     if right_of(shape, 1) != 0 {
@@ -51,7 +51,7 @@ struct Top {
 fn top_corner(
     depths: &[u16],
     names: &[u32],
-    shape: &[u16; 1028],
+    shape: &[u16; 1156],
     labels: &[u32],
     asked: &mut [u16; 513],
     room: &mut [u16; 14592],
@@ -115,7 +115,7 @@ fn place_of(recipe: &[u16], w: u16) -> u16
 }
 
 // The corner whose last subtree is at row w, as width and row.
-fn corner_of(recipe: &[u16], shape: &[u16; 1028], w: u16) -> Corner
+fn corner_of(recipe: &[u16], shape: &[u16; 1156], w: u16) -> Corner
     requires { ⌜ Shape (now recipe) (now shape) × (1 ≤ length (now recipe)) × (w ≤ length (now recipe)) ⌝ }
     ensures { λ r. ⌜ (r .width ≡ widthAt (now (recipe .entry)) w) × (r .row ≡ rowAt (now (recipe .entry)) w) ⌝ }
 {
@@ -132,7 +132,7 @@ fn corner_of(recipe: &[u16], shape: &[u16; 1028], w: u16) -> Corner
 }
 
 // Whether the corner is the whole recipe: its last subtree is the last root.
-fn is_whole(shape: &[u16; 1028], w: u16) -> bool
+fn is_whole(shape: &[u16; 1156], w: u16) -> bool
     requires { ⌜ w ≤ 256 ⌝ }
     ensures { λ r. ⌜ (r ≡ true) ↔ ((1 ≤ w) × (word 3 (now (shape .entry)) w ≡ 0) × (word 1 (now (shape .entry)) w ≡ 0)) ⌝ }
 {
@@ -153,8 +153,8 @@ fn answer_good(
     requires { ⌜ GoodTables (now recipe) (now labels) (now depths) (now names) × (length (now recipe) ≤ length (now map)) ⌝ }
     ensures { λ r. ⌜ Answers (now (recipe .entry)) (now (labels .entry)) (now (depths .entry)) (now (names .entry)) (now (map .entry)) r (now (map .exit)) ⌝ }
 {
-    let mut shape = [0u16; 1028];
-    build(recipe, &mut shape);
+    let mut shape = [0u16; 1156];
+    build(recipe, labels, &mut shape);
     let mut asked = [0u16; 513];
     let mut room = [0u16; 14592];
     let mut log = [0u8; 2048];

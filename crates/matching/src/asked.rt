@@ -44,7 +44,7 @@ pub(crate) fn ask(asked: &mut [u16; 513], z: usize, y: u16) -> usize
 
 // Asks also the chain after each of the q corners that room keeps from base on. Answers how many are asked then.
 pub(crate) fn extend(
-    shape: &[u16; 1028],
+    shape: &[u16; 1156],
     asked: &mut [u16; 513],
     room: &[u16; 14592],
     base: usize,

@@ -7,7 +7,7 @@ ghost use lib.ListN.{length, getD};
 ghost use Rattle.rows.specs.Rows.{depth, descendants, lastRow};
 ghost use Rattle.rows.specs.Forest.{size, forestAt};
 ghost use Rattle.matching.specs.CornerRow.{OnChain};
-ghost use Rattle.matching.specs.Shape.{Shape, word};
+ghost use Rattle.matching.specs.Shape.{Shape, word, Kinds};
 ghost use Rattle.matching.specs.Asked.{chain, noted};
 ghost use Rattle.matching.specs.Path.{logBytes, FirstLevel};
 ghost use Rattle.matching.specs.Engine.{Ready, Begins, Sought, Passed, cornerOf, withTree};
@@ -20,6 +20,7 @@ use crate::joining::join_alone;
 use crate::joining::join_row;
 use crate::log::write_log;
 use crate::shape::depth_of;
+use crate::shape::has_kind;
 use crate::shape::right_of;
 
 // No corners yet: the q words of the room from base on become 0.
@@ -36,7 +37,7 @@ fn clear(room: &mut [u16; 14592], base: usize, q: usize)
 
 // Closes a row with the label name over the rows below it, whose corners on the z chains asked stand from base on.
 fn close_asked(
-    shape: &[u16; 1028],
+    shape: &[u16; 1156],
     labels: &[u32],
     name: u32,
     asked: &[u16; 513],
@@ -58,7 +59,7 @@ fn close_asked(
 
 // The tree's corner on the chain after a, which the room keeps from base on; 0 where there is no such chain.
 fn corner_after(
-    shape: &[u16; 1028],
+    shape: &[u16; 1156],
     asked: &[u16; 513],
     room: &[u16; 14592],
     base: usize,
@@ -77,7 +78,7 @@ fn corner_after(
 
 // Joins the tree whose corners on the chains asked stand behind the q corners from base on.
 fn join_asked(
-    shape: &[u16; 1028],
+    shape: &[u16; 1156],
     labels: &[u32],
     asked: &[u16; 513],
     room: &mut [u16; 14592],
@@ -99,9 +100,10 @@ fn join_asked(
     }
 }
 
-// Joins a row with the label name that has no row below it to the q corners from base on.
+// Joins a row with the label name that has no row below it to the q corners from base on; a label of a kind that the recipe has not
+// changes none.
 fn join_leaf(
-    shape: &[u16; 1028],
+    shape: &[u16; 1156],
     labels: &[u32],
     name: u32,
     asked: &[u16; 513],
@@ -109,11 +111,14 @@ fn join_leaf(
     base: usize,
     q: usize,
 )
-    requires { ⌜ Shape (recipeOf (now shape) (now labels)) (now shape) ⌝ }
+    requires { ⌜ Shape (recipeOf (now shape) (now labels)) (now shape) × Kinds (now labels) (now shape) ⌝ }
     requires { ⌜ (base + q ≤ roomWords) × (length (now room) ≡ roomWords) × (q ≤ 256) ⌝ }
     requires { ⌜ ((i : ℕ) → i < q → OnChain (recipeOf (now shape) (now labels)) (chain (now asked) i) (getD (now room) (base + i) 0)) ⌝ }
     ensures { λ r. ⌜ Written (now (room .entry)) base q (joinedAlone (now (shape .entry)) (now (labels .entry)) name (now (asked .entry)) (now (room .entry)) base) (now (room .exit)) ⌝ }
 {
+    if !has_kind(shape, name) {
+        return;
+    }
     let mut i = 0;
     while i < q {
         room[base + i] = join_alone(shape, labels, name, asked[i], room[base + i]);
@@ -134,7 +139,7 @@ pub(crate) fn has_rows(depths: &[u16], first: usize) -> bool
 
 // Of the corners from base on of the k chains asked first, the place of the first that stands on the level of its chain; k if none does.
 fn first_level(
-    shape: &[u16; 1028],
+    shape: &[u16; 1156],
     asked: &[u16; 513],
     room: &[u16; 14592],
     base: usize,
@@ -170,7 +175,7 @@ fn is_found(held: usize, k: usize) -> bool
 fn tree_corners(
     depths: &[u16],
     names: &[u32],
-    shape: &[u16; 1028],
+    shape: &[u16; 1156],
     labels: &[u32],
     asked: &mut [u16; 513],
     room: &mut [u16; 14592],
@@ -224,7 +229,7 @@ fn tree_corners(
 pub(crate) fn forest_corners(
     depths: &[u16],
     names: &[u32],
-    shape: &[u16; 1028],
+    shape: &[u16; 1156],
     labels: &[u32],
     asked: &mut [u16; 513],
     room: &mut [u16; 14592],

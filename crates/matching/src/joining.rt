@@ -25,7 +25,7 @@ fn label_of(labels: &[u32], v: u16) -> u32
 }
 
 // Close a row with the label name over the rows below it, whose corner on chain x is w: the corner on chain x then.
-pub(crate) fn close_row(shape: &[u16; 1028], labels: &[u32], name: u32, x: u16, w: u16) -> u16
+pub(crate) fn close_row(shape: &[u16; 1156], labels: &[u32], name: u32, x: u16, w: u16) -> u16
     requires { ⌜ Shape (recipeOf (now shape) (now labels)) (now shape) ⌝ }
     requires { ⌜ (x ≤ length (recipeOf (now shape) (now labels))) × (w ≤ length (recipeOf (now shape) (now labels))) ⌝ }
     ensures { λ r. ⌜ r ≡ closeRow (named (now (labels .entry))) (recipeOf (now (shape .entry)) (now (labels .entry))) x name w ⌝ }
@@ -51,7 +51,7 @@ pub(crate) fn close_row(shape: &[u16; 1028], labels: &[u32], name: u32, x: u16, 
 }
 
 // Whether b is a row, and shallower than d.
-fn is_higher(shape: &[u16; 1028], b: u16, d: u16) -> bool
+fn is_higher(shape: &[u16; 1156], b: u16, d: u16) -> bool
     requires { ⌜ b ≤ 256 ⌝ }
     ensures { λ r. ⌜ (r ≡ true) ↔ ((1 ≤ b) × (word 3 (now (shape .entry)) b < d)) ⌝ }
 {
@@ -62,7 +62,7 @@ fn is_higher(shape: &[u16; 1028], b: u16, d: u16) -> bool
 }
 
 // Whether w is a row of depth d.
-pub(crate) fn is_level(shape: &[u16; 1028], w: u16, d: u16) -> bool
+pub(crate) fn is_level(shape: &[u16; 1156], w: u16, d: u16) -> bool
     requires { ⌜ w ≤ 256 ⌝ }
     ensures { λ r. ⌜ (r ≡ true) ↔ ((1 ≤ w) × (word 3 (now (shape .entry)) w ≡ d)) ⌝ }
 {
@@ -73,7 +73,7 @@ pub(crate) fn is_level(shape: &[u16; 1028], w: u16, d: u16) -> bool
 }
 
 // Join a tree: a is the corner so far, b the tree's corner on the same chain, w the tree's corner on the chain after a.
-pub(crate) fn join_row(shape: &[u16; 1028], labels: &[u32], a: u16, b: u16, w: u16) -> u16
+pub(crate) fn join_row(shape: &[u16; 1156], labels: &[u32], a: u16, b: u16, w: u16) -> u16
     requires { ⌜ Shape (recipeOf (now shape) (now labels)) (now shape) ⌝ }
     requires { ⌜ (a ≤ length (recipeOf (now shape) (now labels))) × (b ≤ length (recipeOf (now shape) (now labels))) × (w ≤ length (recipeOf (now shape) (now labels))) ⌝ }
     ensures { λ r. ⌜ r ≡ joinRow (recipeOf (now (shape .entry)) (now (labels .entry))) a b w ⌝ }
@@ -93,7 +93,7 @@ pub(crate) fn join_row(shape: &[u16; 1028], labels: &[u32], a: u16, b: u16, w: u
 
 // How a listing row alone with the label name changes the corner a on chain x: the row's own corner, a left-most leaf, is never
 // higher than a, so where a is a row, only the next tree beside it can be gained.
-pub(crate) fn join_alone(shape: &[u16; 1028], labels: &[u32], name: u32, x: u16, a: u16) -> u16
+pub(crate) fn join_alone(shape: &[u16; 1156], labels: &[u32], name: u32, x: u16, a: u16) -> u16
     requires { ⌜ Shape (recipeOf (now shape) (now labels)) (now shape) ⌝ }
     requires { ⌜ OnChain (recipeOf (now shape) (now labels)) x a ⌝ }
     ensures { λ r. ⌜ r ≡ joinRow (recipeOf (now (shape .entry)) (now (labels .entry))) a (alone (now (shape .entry)) (now (labels .entry)) name x) (alone (now (shape .entry)) (now (labels .entry)) name (word 1 (now (shape .entry)) a)) ⌝ }

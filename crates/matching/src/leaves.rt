@@ -6,7 +6,7 @@ ghost use Rattle.matching.specs.Family.{leftLeaf};
 ghost use Rattle.matching.specs.Linked.{Rooted, Leaved};
 
 // The left-most leaf of the tree at row v: the next row's if that row is deeper, and so its first child, else v itself.
-fn left_leaf(depths: &[u16], shape: &[u16; 1028], v: u16) -> u16
+fn left_leaf(depths: &[u16], shape: &[u16; 1156], v: u16) -> u16
     requires { ⌜ Row (now depths) v × Outline (now depths) × Leaved (now depths) (now shape) v ⌝ }
     ensures { λ r. ⌜ r ≡ leftLeaf (now (depths .entry)) v ⌝ }
 {
@@ -18,7 +18,7 @@ fn left_leaf(depths: &[u16], shape: &[u16; 1028], v: u16) -> u16
 }
 
 // All rows have their left-most leaves.
-pub(crate) fn find_leaves(depths: &[u16], shape: &mut [u16; 1028])
+pub(crate) fn find_leaves(depths: &[u16], shape: &mut [u16; 1156])
     requires { ⌜ Outline (now depths) × Rooted (now depths) (now shape) ⌝ }
     ensures { λ r. ⌜ Leaved (now (depths .entry)) (now (shape .exit)) 0 ⌝ }
 {

@@ -15,7 +15,7 @@ pub(crate) struct Kin {
 }
 
 // The last row before v that is no deeper than v, 0 if there is none: from the row before v up by the parents.
-fn no_deeper(depths: &[u16], shape: &[u16; 1028], v: u16) -> u16
+fn no_deeper(depths: &[u16], shape: &[u16; 1156], v: u16) -> u16
     requires { ⌜ Row (now depths) v × Climbs (now depths) (now shape) v ⌝ }
     ensures { λ r. ⌜ r ≡ noDeeper (now (depths .entry)) v ⌝ }
 {
@@ -29,7 +29,7 @@ fn no_deeper(depths: &[u16], shape: &[u16; 1028], v: u16) -> u16
 
 // The left sibling and the parent of row v. The last row before v that is no deeper is the left sibling if it is as deep, and
 // then has the same parent; else it is the parent.
-pub(crate) fn kin_of(depths: &[u16], shape: &[u16; 1028], v: u16) -> Kin
+pub(crate) fn kin_of(depths: &[u16], shape: &[u16; 1156], v: u16) -> Kin
     requires { ⌜ Row (now depths) v × Climbs (now depths) (now shape) v ⌝ }
     ensures left { λ r. ⌜ r .left ≡ leftSibling (now (depths .entry)) v ⌝ }
     ensures parent { λ r. ⌜ r .parent ≡ parent (now (depths .entry)) v ⌝ }
@@ -47,7 +47,7 @@ pub(crate) fn kin_of(depths: &[u16], shape: &[u16; 1028], v: u16) -> Kin
 
 // Row v is linked: it becomes the right sibling of its left sibling (of row 0 if it has none), and has its parent, no right
 // sibling as yet, and its depth.
-fn link_row(depths: &[u16], shape: &mut [u16; 1028], v: u16)
+fn link_row(depths: &[u16], shape: &mut [u16; 1156], v: u16)
     requires { ⌜ Row (now depths) v × Linked (now depths) (now shape) v ⌝ }
     ensures { λ r. ⌜ Linked (now (depths .entry)) (now (shape .exit)) (suc v) ⌝ }
 {
@@ -61,7 +61,7 @@ fn link_row(depths: &[u16], shape: &mut [u16; 1028], v: u16)
 }
 
 // All rows are linked, from row 1 on.
-pub(crate) fn link_rows(depths: &[u16], shape: &mut [u16; 1028])
+pub(crate) fn link_rows(depths: &[u16], shape: &mut [u16; 1156])
     requires { ⌜ Linked (now depths) (now shape) 1 ⌝ }
     ensures { λ r. ⌜ Linked (now (depths .entry)) (now (shape .exit)) (suc (length (now (depths .entry)))) ⌝ }
 {

@@ -29,7 +29,7 @@ fn most_rows(recipe: &[u16], v: u16) -> usize
 
 // Of the children of row u, which has some, the one with the most rows below it; of several the first. Any child would do: the choice
 // only saves steps.
-fn widest_child(recipe: &[u16], shape: &[u16; 1028], u: u16) -> u16
+fn widest_child(recipe: &[u16], shape: &[u16; 1156], u: u16) -> u16
     requires { ⌜ Shape (now recipe) (now shape) × Outline (now recipe) × Row (now recipe) u × (1 ≤ descendants (now recipe) u) ⌝ }
     ensures { λ r. ⌜ Row (now (recipe .entry)) r × (parent (now (recipe .entry)) r ≡ u) ⌝ }
 {
@@ -48,7 +48,7 @@ fn widest_child(recipe: &[u16], shape: &[u16; 1028], u: u16) -> u16
 }
 
 // Asks the rows of the path from row v on that have rows below them, v among them. Answers how many.
-pub(crate) fn ask_path(recipe: &[u16], shape: &[u16; 1028], asked: &mut [u16; 513], v: u16) -> usize
+pub(crate) fn ask_path(recipe: &[u16], shape: &[u16; 1156], asked: &mut [u16; 513], v: u16) -> usize
     requires { ⌜ Shape (now recipe) (now shape) × Outline (now recipe) × Row (now recipe) v × (1 ≤ descendants (now recipe) v) ⌝ }
     requires { ⌜ length (now asked) ≡ 513 ⌝ }
     ensures { λ r. ⌜ PathAsked (now (recipe .entry)) (now (asked .exit)) r × (chain (now (asked .exit)) 0 ≡ v) ⌝ }

@@ -94,7 +94,7 @@ pub(crate) fn seek(
     first: usize,
     end: usize,
     names: &[u32],
-    shape: &[u16; 1028],
+    shape: &[u16; 1156],
     labels: &[u32],
     asked: &mut [u16; 513],
     room: &mut [u16; 14592],

@@ -1,14 +1,17 @@
-// The recipe's shape, four words a row: from word 4 * v on row v has its parent, right sibling, left-most leaf and depth.
+// The recipe's shape, four words a row: from word 4 * v on row v has its parent, right sibling, left-most leaf and depth. Behind these
+// stands a word for each kind of label.
 use crate::leaves::find_leaves;
 use crate::link::link_rows;
 ghost use mathlib.Core.Path.{_≡_};
-ghost use Prim.Native.Nat.{_≤_};
-ghost use lib.ListN.{length, set};
+ghost use mathlib.Core.Bool.{true};
+ghost use mathlib.Core.Logic.{_↔_};
+ghost use Prim.Native.Nat.{ℕ, _≤_, _<_};
+ghost use lib.ListN.{length, getD, set};
 ghost use Rattle.rows.specs.Rows.{Outline};
-ghost use Rattle.matching.specs.Shape.{word, Shape};
+ghost use Rattle.matching.specs.Shape.{word, kindWord, Kinds, Shape};
 
 // The parent of row v, 0 for a root.
-pub(crate) fn parent_of(shape: &[u16; 1028], v: u16) -> u16
+pub(crate) fn parent_of(shape: &[u16; 1156], v: u16) -> u16
     requires { ⌜ v ≤ 256 ⌝ }
     ensures { λ r. ⌜ r ≡ word 0 (now (shape .entry)) v ⌝ }
 {
@@ -16,7 +19,7 @@ pub(crate) fn parent_of(shape: &[u16; 1028], v: u16) -> u16
 }
 
 // The right sibling of row v, 0 if it has none.
-pub(crate) fn right_of(shape: &[u16; 1028], v: u16) -> u16
+pub(crate) fn right_of(shape: &[u16; 1156], v: u16) -> u16
     requires { ⌜ v ≤ 256 ⌝ }
     ensures { λ r. ⌜ r ≡ word 1 (now (shape .entry)) v ⌝ }
 {
@@ -24,7 +27,7 @@ pub(crate) fn right_of(shape: &[u16; 1028], v: u16) -> u16
 }
 
 // The left-most leaf of the tree at row v.
-pub(crate) fn leaf_of(shape: &[u16; 1028], v: u16) -> u16
+pub(crate) fn leaf_of(shape: &[u16; 1156], v: u16) -> u16
     requires { ⌜ v ≤ 256 ⌝ }
     ensures { λ r. ⌜ r ≡ word 2 (now (shape .entry)) v ⌝ }
 {
@@ -32,7 +35,7 @@ pub(crate) fn leaf_of(shape: &[u16; 1028], v: u16) -> u16
 }
 
 // The depth of row v.
-pub(crate) fn depth_of(shape: &[u16; 1028], v: u16) -> u16
+pub(crate) fn depth_of(shape: &[u16; 1156], v: u16) -> u16
     requires { ⌜ v ≤ 256 ⌝ }
     ensures { λ r. ⌜ r ≡ word 3 (now (shape .entry)) v ⌝ }
 {
@@ -49,13 +52,43 @@ fn clear_root(words: &mut [u16])
     words[3] = 0;
 }
 
-// The shape of a recipe by its depths, whatever stood there before. Row 0 loses the right sibling that linking left there.
-pub(crate) fn build(depths: &[u16], shape: &mut [u16; 1028])
+// The word that a label's kind has.
+fn kind_word(label: u32) -> usize
+    ensures { λ r. ⌜ (r ≡ kindWord label) × (r < 1156) ⌝ }
+{
+    1028 + ((label / 8) % 128) as usize
+}
+
+// Whether some label of the recipe may be this one: one of its kind is.
+pub(crate) fn has_kind(shape: &[u16; 1156], label: u32) -> bool
+    ensures { λ r. ⌜ (r ≡ true) ↔ (1 ≤ getD (now (shape .entry)) (kindWord label) 0) ⌝ }
+{
+    if shape[kind_word(label)] == 0 {
+        return false;
+    }
+    true
+}
+
+// Notes the kinds of the recipe's labels; the rows' words stay.
+fn note_kinds(labels: &[u32], shape: &mut [u16; 1156])
+    requires { ⌜ length (now shape) ≡ 1156 ⌝ }
+    ensures { λ r. ⌜ Kinds (now (labels .entry)) (now (shape .exit)) × ((j : ℕ) → j < 1028 → getD (now (shape .exit)) j 0 ≡ getD (now (shape .entry)) j 0) ⌝ }
+{
+    let mut i = 0;
+    while i < labels.len() {
+        shape[kind_word(labels[i])] = 1;
+        i += 1;
+    }
+}
+
+// The shape of a recipe by its depths and labels, whatever stood there before. Row 0 loses the right sibling that linking left there.
+pub(crate) fn build(depths: &[u16], labels: &[u32], shape: &mut [u16; 1156])
     requires { ⌜ (length (now depths) ≤ 256) × Outline (now depths) ⌝ }
-    ensures { λ r. ⌜ Shape (now (depths .entry)) (now (shape .exit)) ⌝ }
+    ensures { λ r. ⌜ Shape (now (depths .entry)) (now (shape .exit)) × Kinds (now (labels .entry)) (now (shape .exit)) ⌝ }
 {
     clear_root(shape);
     find_leaves(depths, shape);
     link_rows(depths, shape);
     shape[1] = 0;
+    note_kinds(labels, shape);
 }

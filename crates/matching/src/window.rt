@@ -33,7 +33,7 @@ fn behind<'a>(depths: &'a [u16], first: usize) -> Window<'a>
 fn seek_in<'a>(
     window: Window<'a>,
     names: &[u32],
-    shape: &[u16; 1028],
+    shape: &[u16; 1156],
     labels: &[u32],
     asked: &mut [u16; 513],
     room: &mut [u16; 14592],
@@ -65,7 +65,7 @@ pub(crate) fn seek_behind(
     depths: &[u16],
     first: usize,
     names: &[u32],
-    shape: &[u16; 1028],
+    shape: &[u16; 1156],
     labels: &[u32],
     asked: &mut [u16; 513],
     room: &mut [u16; 14592],

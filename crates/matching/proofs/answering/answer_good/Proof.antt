@@ -25,8 +25,8 @@ top-corner-requires c κs =
     let start = entry (c .before .before .before .before) in
     let a = start .args in (
       (
-        ready (a .recipe .now) (a .labels .now) (a .depths .now) (a .names .now) (a .map .now) (start .pre .0) (start .pre .1) (b .last .1 .0) (b .ensures),
-        rw (recipe-is (a .recipe .now) (a .labels .now) (a .depths .now) (a .names .now) (a .map .now) (start .pre .0) (start .pre .1) (b .last .1 .0) (b .ensures)) (start .pre .0 .recipe-some),
+        ready (a .recipe .now) (a .labels .now) (a .depths .now) (a .names .now) (a .map .now) (start .pre .0) (start .pre .1) (b .last .1 .1 .0) (b .ensures .0) (b .ensures .1),
+        rw (recipe-is (a .recipe .now) (a .labels .now) (a .depths .now) (a .names .now) (a .map .now) (start .pre .0) (start .pre .1) (b .last .1 .1 .0) (b .ensures .0)) (start .pre .0 .recipe-some),
       ),
       (length-replicate {A = ℕ} 513 0, length-replicate {A = ℕ} 14592 0, length-replicate {A = ℕ} 2048 0),
     )
@@ -37,7 +37,7 @@ corner-of-requires c κs =
     let start = entry (built (c .before)) in
     let a = start .args in
     let w = c .before .top-corner in
-    (b .ensures, start .pre .0 .recipe-some, corner-low (a .recipe .now) (a .labels .now) (a .depths .now) (a .names .now) (a .map .now) (start .pre .0) (start .pre .1) (b .last .1 .0) (b .ensures) (w .result .corner) (w .ensures .0 .0))
+    (b .ensures .0, start .pre .0 .recipe-some, corner-low (a .recipe .now) (a .labels .now) (a .depths .now) (a .names .now) (a .map .now) (start .pre .0) (start .pre .1) (b .last .1 .1 .0) (b .ensures .0) (w .result .corner) (w .ensures .0 .0))
 
 is-whole-requires : tie.Need-is-whole-requires
 is-whole-requires c κs =
@@ -46,7 +46,7 @@ is-whole-requires c κs =
     let start = entry (built top) in
     let a = start .args in
     let w = top .top-corner in
-    omega (arith, corner-low (a .recipe .now) (a .labels .now) (a .depths .now) (a .names .now) (a .map .now) (start .pre .0) (start .pre .1) (b .last .1 .0) (b .ensures) (w .result .corner) (w .ensures .0 .0), start .pre .0 .recipe-few)
+    omega (arith, corner-low (a .recipe .now) (a .labels .now) (a .depths .now) (a .names .now) (a .map .now) (start .pre .0) (start .pre .1) (b .last .1 .1 .0) (b .ensures .0) (w .result .corner) (w .ensures .0 .0), start .pre .0 .recipe-few)
 
 returns : tie.Need-returns
 returns c =
@@ -56,7 +56,7 @@ returns c =
     let a = start .args in
     let w = top .top-corner in
     let k = c .before .before .before .corner-of in
-    answers-absent (a .recipe .now) (a .labels .now) (a .depths .now) (a .names .now) (a .map .now) (start .pre .0) (start .pre .1) (b .last .1 .0) (b .ensures) (w .result .corner) (w .ensures .0 .0) (k .result) (k .ensures) (λ h. true≢false (sym (c .before .is-whole .ensures .1 h) ∙ not-true _ (c .if1 .taken)))
+    answers-absent (a .recipe .now) (a .labels .now) (a .depths .now) (a .names .now) (a .map .now) (start .pre .0) (start .pre .1) (b .last .1 .1 .0) (b .ensures .0) (w .result .corner) (w .ensures .0 .0) (k .result) (k .ensures) (λ h. true≢false (sym (c .before .is-whole .ensures .1 h) ∙ not-true _ (c .if1 .taken)))
 
 place-rows-requires : tie.Need-place-rows-requires
 place-rows-requires c κs =
@@ -68,13 +68,13 @@ place-rows-requires c κs =
     let w = top .top-corner in
     let y = left .before .is-whole .ensures .0 (not-false _ (left .if1 .left)) in (
       (
-        ready (a .recipe .now) (a .labels .now) (a .depths .now) (a .names .now) (a .map .now) (start .pre .0) (start .pre .1) (b .last .1 .0) (b .ensures),
-        recipe-is (a .recipe .now) (a .labels .now) (a .depths .now) (a .names .now) (a .map .now) (start .pre .0) (start .pre .1) (b .last .1 .0) (b .ensures),
+        ready (a .recipe .now) (a .labels .now) (a .depths .now) (a .names .now) (a .map .now) (start .pre .0) (start .pre .1) (b .last .1 .1 .0) (b .ensures .0) (b .ensures .1),
+        recipe-is (a .recipe .now) (a .labels .now) (a .depths .now) (a .names .now) (a .map .now) (start .pre .0) (start .pre .1) (b .last .1 .1 .0) (b .ensures .0),
       ),
       (
         (start .pre .0 .recipe-some, start .pre .1),
         (
-          whole-included (a .recipe .now) (a .labels .now) (a .depths .now) (a .names .now) (a .map .now) (start .pre .0) (start .pre .1) (b .last .1 .0) (b .ensures) (w .result .corner) (w .ensures .0 .0) .0 y,
+          whole-included (a .recipe .now) (a .labels .now) (a .depths .now) (a .names .now) (a .map .now) (start .pre .0) (start .pre .1) (b .last .1 .1 .0) (b .ensures .0) (w .result .corner) (w .ensures .0 .0) .0 y,
           (w .ensures .1 .0, w .ensures .1 .1, w .ensures .1 .2, w .ensures .0 .1),
         ),
       ),
@@ -94,7 +94,7 @@ returns-2 c =
     let w = top .top-corner in
     let k = left .before .before .before .corner-of in
     let y = left .before .is-whole .ensures .0 (not-false _ (left .if1 .left)) in
-    answers-included (a .recipe .now) (a .labels .now) (a .depths .now) (a .names .now) (a .map .now) (start .pre .0) (start .pre .1) (b .last .1 .0) (b .ensures) (w .result .corner) (w .ensures .0 .0) (k .result) (k .ensures) y (p .last .1 .1 .1 .1 .1 .1 .1 .1 .1 .0) (p .ensures .0) (p .ensures .1)
+    answers-included (a .recipe .now) (a .labels .now) (a .depths .now) (a .names .now) (a .map .now) (start .pre .0) (start .pre .1) (b .last .1 .1 .0) (b .ensures .0) (w .result .corner) (w .ensures .0 .0) (k .result) (k .ensures) y (p .last .1 .1 .1 .1 .1 .1 .1 .1 .1 .0) (p .ensures .0) (p .ensures .1)
 
 pub answer-good-spec : {M : Type 1} → statement M
 answer-good-spec =

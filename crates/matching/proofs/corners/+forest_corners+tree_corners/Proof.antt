@@ -207,7 +207,7 @@ tree-corners-join-leaf-requires : (t : ℕ) → tree-corners-lts.Need-join-leaf-
 tree-corners-join-leaf-requires t c κs =
     let start = c .before .before .before .before .before .before .before .before .before .before in
     let a = start .args in (
-      start .pre .1 .0 .0 .shape,
+      (start .pre .1 .0 .0 .shape, start .pre .1 .0 .0 .kinds),
       (
         (level-room (a .shape .now) (a .labels .now) (a .depths .now) (a .names .now) (start .pre .1 .0 .0) (a .asked .now) (a .room .now) (a .base) (a .q) (a .first) (start .pre .1 .1 .0 .0) (start .pre .1 .0 .1), start .pre .1 .1 .0 .0 .words, omega (arith, few (a .shape .now) (a .labels .now) (a .depths .now) (a .names .now) (start .pre .1 .0 .0) (a .asked .now) (a .room .now) (a .base) (a .q) (a .first) (start .pre .1 .1 .0 .0) (start .pre .1 .0 .1), start .pre .1 .0 .0 .shape .few)),
         start .pre .1 .1 .1,
