@@ -1,5 +1,6 @@
 /* Times the proved inclusion call beside two programs in C, in one run: the same algorithm, and the table of Kilpelainen and Mannila
-   (yes or no, and on a yes the map). Each turn times all three on a case, and the best turn of each counts. Prints microseconds and ratios. */
+   (yes or no, and on a yes the map). The first judges the tables and clears its room as the proved call does, the second does neither. Each
+   turn times all three on a case, and the best turn of each counts. Prints microseconds and ratios. */
 typedef unsigned short u16;
 typedef unsigned int u32;
 typedef unsigned long u64;
@@ -8,11 +9,12 @@ struct timespec { long seconds, nanoseconds; };
 int clock_gettime(int clock, struct timespec *time);
 int printf(const char *format, ...);
 int memcmp(const void *a, const void *b, u64 size);
+void *memset(void *at, int byte, u64 size);
 
 u64 inclusion_bench_include(const u16 *listing_depths, u64 a, const u32 *listing_labels, u64 b, const u16 *recipe_depths, u64 c,
                             const u32 *recipe_labels, u64 d, u16 *map, u64 e);
 
-enum { LISTING = 4096, RECIPE = 256, DEEPEST = 63, TURNS = 15, ROOM = 14592 };
+enum { LISTING = 4096, RECIPE = 256, DEEPEST = 63, TURNS = 150, ROOM = 14592 };
 
 static u16 td[LISTING], rd[RECIPE], map[RECIPE], map_c[RECIPE], map_t[RECIPE];
 static u32 tl[LISTING], rl[RECIPE];
@@ -30,7 +32,8 @@ static u32 next(u32 below)
 enum { PATH = 15, PATH_RECIPE = 228, PATH_DEPTH = 4 };
 static u16 parent[RECIPE + 1], right[RECIPE + 1], left[RECIPE + 1], leaf[RECIPE + 1], deep[RECIPE + 1];
 static u16 asked[RECIPE], place[RECIPE + 1], room[ROOM], mark[RECIPE + 1];
-static unsigned char logged[LISTING], kinds[128]; /* eight labels that follow each other are of one kind */
+static unsigned char logged[LISTING];
+static u16 kinds[128]; /* a bit for each kind of label: labels that leave the same remainder by 2,048 are of one kind */
 static u16 last[LISTING + 1];
 
 static void build(void)
@@ -47,7 +50,7 @@ static void build(void)
     for (int i = 0; i < 128; i++)
         kinds[i] = 0;
     for (int v = m; v; v--)
-        kinds[rl[v - 1] / 8 % 128] = 1;
+        kinds[rl[v - 1] / 16 % 128] |= (u16)(1 << rl[v - 1] % 16);
     for (int v = m; v; v--)
         leaf[v] = v < m && rd[v] > rd[v - 1] ? leaf[v + 1] : (u16)v;
 }
@@ -67,6 +70,21 @@ static u16 join_row(u16 a, u16 b, u16 w)
     return w && deep[w] == deep[a] ? w : a;
 }
 
+/* the recipe has no label of this kind */
+static int is_foreign(u32 name)
+{
+    return !(kinds[name / 16 % 128] >> name % 16 & 1);
+}
+
+/* behind the tree at this row where all rows below it are foreign, else 0 */
+static int bare_end(int first)
+{
+    int at = first + 1;
+    for (; at < n && td[at] > td[first]; at++)
+        if (!is_foreign(tl[at])) return 0;
+    return at;
+}
+
 /* A pass ends behind its rows, or at the first row to close that holds the first of the k rows of the path that are asked first: that
    is the row's number, negative. */
 static int forest_corners(int base, int q, int k, int first);
@@ -74,13 +92,15 @@ static int forest_corners(int base, int q, int k, int first);
 static int tree_corners(int base, int q, int k, int first)
 {
     u32 name = tl[first];
-    if (first + 1 >= n || td[first + 1] <= td[first]) {
-        if (k > 1) logged[first] = PATH;
-        for (int i = 0; kinds[name / 8 % 128] && i < q; i++) {
+    int bare = bare_end(first);
+    if (bare) {
+        for (int t = first; k > 1 && t < bare; t++)
+            logged[t] = PATH;
+        for (int i = 0; i < q; i++) {
             u16 a = room[base + i], y = right[a], w = a ? y ? close_row(name, y, 0) : 0 : close_row(name, asked[i], 0);
             if (!a || (w && deep[w] == deep[a])) room[base + i] = w;
         }
-        return first + 1;
+        return bare;
     }
     int z = q;
     for (int i = 0; i < q; i++) {
@@ -109,7 +129,11 @@ static int forest_corners(int base, int q, int k, int first)
         room[base + i] = 0;
     int at = first;
     while (at >= 0 && at < n && td[at] >= td[first])
-        at = tree_corners(base, q, k, at);
+        if (is_foreign(tl[at])) {
+            if (k > 1) logged[at] = PATH;
+            at++;
+        } else
+            at = tree_corners(base, q, k, at);
     return at;
 }
 
@@ -170,8 +194,18 @@ static int last_row(int t)
     return e;
 }
 
+static int is_good(const u16 *depths, int rows)
+{
+    int most = 0;
+    for (int i = 0; i < rows; most = depths[i++] + 1)
+        if (depths[i] > most || depths[i] > DEEPEST) return 0;
+    return 1;
+}
+
 __attribute__((noinline)) static u64 same(void)
 {
+    if (!is_good(rd, m) || !is_good(td, n)) return (u64)1 << 40;
+    memset(room, 0, sizeof room);
     build();
     int pass = 0;
     room[0] = 0;
@@ -263,38 +297,19 @@ static void comb(int height, u32 last)
     rl[m - 1] = last;
 }
 
-/* The deepest comb, in a listing that has it once, with other rows below each link. */
-static void padded_comb(int height, int others)
+/* A comb with so many leaves left of each link, in a listing that has it once, with other rows behind the leaves: chains that go down so
+   many rows, all of one label. The recipe's last row has the label 2. */
+static void comb_among(int height, int leaves, int others, int chain, u32 label)
 {
     n = m = 0;
-    for (int i = 0; i < 2 * height - 1; i++) {
-        m = grow(rd, rl, m, RECIPE, (u16)((i + 1) / 2), 1), n = grow(td, tl, n, LISTING, (u16)((i + 1) / 2), 1);
-        for (int k = 0; i % 2 && k < others; k++) n = grow(td, tl, n, LISTING, (u16)((i + 1) / 2), 2);
+    for (int d = 0; d < height; d++) {
+        m = grow(rd, rl, m, RECIPE, (u16)d, 1), n = grow(td, tl, n, LISTING, (u16)d, 1);
+        for (int i = 0; d + 1 < height && i < leaves; i++)
+            m = grow(rd, rl, m, RECIPE, (u16)(d + 1), 1), n = grow(td, tl, n, LISTING, (u16)(d + 1), 1);
+        for (int i = 0; d + 1 < height && i < others; i++)
+            for (int k = 1; k <= chain && d + k <= DEEPEST; k++) n = grow(td, tl, n, LISTING, (u16)(d + k), label);
     }
-}
-
-/* The same with the other rows in pairs, one below the other. */
-static void paired_comb(int height, int pairs)
-{
-    n = m = 0;
-    for (int i = 0; i < 2 * height - 1; i++) {
-        u16 depth = (u16)((i + 1) / 2);
-        m = grow(rd, rl, m, RECIPE, depth, 1), n = grow(td, tl, n, LISTING, depth, 1);
-        for (int k = 0; i % 2 && depth < DEEPEST && k < pairs; k++)
-            n = grow(td, tl, n, LISTING, depth, 2), n = grow(td, tl, n, LISTING, (u16)(depth + 1), 2);
-    }
-}
-
-/* The same with three leaves left of each link: nearly as large as a recipe may be. */
-static void large_comb(int others)
-{
-    n = m = 0;
-    for (int i = 0; i <= 4 * DEEPEST; i++) {
-        u16 depth = (u16)((i + 3) / 4);
-        m = grow(rd, rl, m, RECIPE, depth, 1), n = grow(td, tl, n, LISTING, depth, 1);
-        for (int k = 0; i % 4 == 3 && k < others; k++) n = grow(td, tl, n, LISTING, depth, 2);
-    }
-    if (n > LISTING) n = LISTING;
+    rl[m - 1] = tl[n - 1] = 2;
 }
 
 /* Roots alone, in a listing whose levels have 1, 2, 4 and so on such rows before they go down: of the rows at the bottom all chains are
@@ -306,6 +321,7 @@ static void all_asked(void)
     for (int depth = 0; depth < 8; depth++)
         for (int i = 0; i < 1 << depth; i++) n = grow(td, tl, n, LISTING, (u16)depth, 1);
     while (n < LISTING) n = grow(td, tl, n, LISTING, 8, 2);
+    rl[m - 1] = 2;
 }
 
 static void chance(u32 labels, int flat, int slope)
@@ -352,7 +368,7 @@ static int measure(const char *name)
 {
     double a = -1, b = -1, c = -1;
     for (int turn = 0; turn < TURNS; turn++)
-        a = timed(proved, a, 20), b = timed(in_c, b, 20), c = timed(by_table, c, 2);
+        a = timed(proved, a, 4), b = timed(in_c, b, 4), c = timed(by_table, c, 1);
     int same_maps = memcmp(map, map_c, 2u * m) == 0 && memcmp(map, map_t, 2u * m) == 0;
     if (answer != answer_c || (int)(answer & 1) != answer_t || ((answer & 1) && !same_maps)) {
         printf("%s: the answers differ: %lu %lu %d\n", name, answer, answer_c, answer_t);
@@ -374,9 +390,11 @@ int main(void)
     comb(63, 2), wrong |= measure("comb, h = 63, last row lost");
     comb(26, 1), wrong |= measure("comb, h = 26");
     comb(63, 1), wrong |= measure("comb, h = 63");
-    padded_comb(63, 62), wrong |= measure("comb among others, h = 63");
-    paired_comb(63, 31), wrong |= measure("comb among pairs, h = 63");
-    large_comb(60), wrong |= measure("large comb among others");
+    comb_among(63, 1, 62, 1, 2), wrong |= measure("comb among others, h = 63");
+    comb_among(63, 1, 31, 2, 2), wrong |= measure("comb among pairs, h = 63");
+    comb_among(63, 1, 31, 2, 3), wrong |= measure("comb among foreign pairs");
+    comb_among(63, 3, 60, 1, 2), wrong |= measure("large comb among others");
+    comb_among(5, 1, 100, 10, 2), wrong |= measure("small comb among chains");
     all_asked(), wrong |= measure("all chains asked");
     chance(1, 0, 0), wrong |= measure("one label, by chance");
     chance(2, 0, 8), wrong |= measure("two labels, deep");

@@ -277,6 +277,14 @@ module _ (test : ℕ → ℕ → Bool) (rd : List ℕ) (k : Outline rd) where
   corner-close x t f r =
       one-row (found (cons t f nil) x (r .1)) (row-close Fits test (λ v t. Iff·rfl) rd k x r f t (cornerAt test rd f x) (found f x (r .1)))
 
+  -- a row that fits no recipe row closes as if it were not there
+  pub corner-unfit : (x t : ℕ) (f : Forest ℕ) → Row rd x → ((v : ℕ) → Row rd v → test v t ≡ true → ⊥) → cornerAt test rd (cons t f nil) x ≡ cornerAt test rd f x
+  corner-unfit x t f r unfit =
+      let b = found f x (r .1) in
+      one-row (found (cons t f nil) x (r .1))
+      (kept Fits test (λ v t. Iff·rfl) rd k x r f t (b .width) (b .level) (cornerAt test rd f x) (b .best) (b .row)
+      (λ u e w s. unfit (x + u) (level-of rd k u x r (omega (arith, b .best .low)) .row) s))
+
   pub corner-join : (x : ℕ) (f h : Forest ℕ) → Row rd x
       → cornerAt test rd (beside f h) x ≡ joinRow rd (cornerAt test rd f x) (cornerAt test rd h x) (cornerAt test rd h (rightSibling rd (cornerAt test rd f x)))
   corner-join x f h r =

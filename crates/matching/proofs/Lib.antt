@@ -3,7 +3,9 @@ pub mod Alone
 pub mod AnswerLaws
 pub mod AskedLaws
 pub mod Asking
+pub mod Bare
 pub mod Best
+pub mod Bits
 pub mod CornerLaws
 pub mod CornerRow
 pub mod CornerWords
@@ -12,6 +14,7 @@ pub mod Cut
 pub mod EarliestClose
 pub mod Family
 pub mod FirstIn
+pub mod Foreign
 pub mod ForestJoins
 pub mod Held
 pub mod Holds

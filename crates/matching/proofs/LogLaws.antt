@@ -1,4 +1,4 @@
--- The log's half bytes: what is read of one row, and that a write for one row changes that row's alone. Assumes nothing.
+-- The log's half bytes: what is read of one row, and that a write for one row changes that row's alone. Rows that get the place of no row. Assumes nothing.
 use mathlib.Core.Path.{_≡_, refl, sym, ap, _∙_}
 use mathlib.Core.List.{List}
 use Prim.Native.Nat.{ℕ, suc, _+_, _-_, _*_, _/_, _%_, _≤_, _<_}
@@ -9,7 +9,8 @@ use lib.Seq.{getD-set-same}
 use borrow.Author.Tests.{le-leb, lt-leb}
 use Rattle.rows.specs.Limits.{listingRows}
 use Rattle.rows.specs.Rows.{at}
-use Rattle.matching.specs.Path.{logBytes, logged, Put}
+use Rattle.matching.specs.Path.{logBytes, logged, Put, Blank}
+use Rattle.matching.proofs.PathLaws.{kept-wide, kept-both, kept-none, kept-one}
 use Rattle.matching.proofs.Placing.{at-other}
 
 -- the lower halves are those of the first rows, the upper ones of the others
@@ -88,3 +89,20 @@ module _ (ls : List ℕ) (n : length ls ≡ logBytes) (place k : ℕ) (low : pla
       go : (y : ℕ) → (y ≡ suc first → ⊥) → Dec (y ≤ logBytes) → logged ms y ≡ logged ls y
       go y o (yes i) = same-lower ls ms (first - logBytes) (at-other ls (first - logBytes) b) (ap (λ (x : ℕ). x % 16) byte ∙ omega (arith, e)) y i
       go y o (no i) = other-upper ls ms (first - logBytes) (at-other ls (first - logBytes) b) y (omega arith) (λ x. o (omega arith))
+
+-- no row has got the place of no row yet, ..
+pub blank-none : (ls : List ℕ) (first k : ℕ) → length ls ≡ logBytes → Blank ls first first k ls
+blank-none ls first k n = record { none = λ o y a b. absurd (omega arith); kept = kept-none ls (suc first) first n }
+
+-- .. or one row more has
+pub blank-one : (ls : List ℕ) (first r k : ℕ) (ms os : List ℕ) → first ≤ r → Blank ls first r k ms → Put ms r 15 k os → Blank ls first (suc r) k os
+blank-one ls first r k ms os h b p =
+    record {
+      none = λ o y i j. go o y i (ℕ-discrete y (suc r)) j;
+      kept = kept-both ls (suc first) (suc r) ms os (kept-wide ls (suc first) r (suc first) (suc r) ms (omega arith) (omega arith) (b .kept))
+          (kept-wide ms (suc r) (suc r) (suc first) (suc r) os (omega arith) (omega arith) (kept-one ms r 15 k os (suc r) (omega arith) p));
+    }
+  where
+    go : 2 ≤ k → (y : ℕ) → first < y → Dec (y ≡ suc r) → y ≤ suc r → logged os y ≡ 15
+    go o y i (yes e) j = rw e (p .here o)
+    go o y i (no n) j = p .others y n ∙ b .none o y i (omega arith)

@@ -1,7 +1,6 @@
 -- What the marks in the map and the log say of the rows of a path, while the map's images are found. Assumes nothing.
 use mathlib.Core.Path.{_≡_, refl, sym, ap, _∙_}
 use mathlib.Core.List.{List}
-use mathlib.Core.Logic.{_↔_}
 use Prim.Native.Nat.{ℕ, zero, suc, _≤_, _<_}
 use native.Mathlib.Omega.{arith}
 use native.Mathlib.Decide.{decLe, ℕ-discrete}
@@ -13,7 +12,7 @@ use Rattle.matching.specs.Family.{parent}
 use Rattle.matching.specs.EarliestClose.{Holds}
 use Rattle.matching.specs.Placing.{Placed, lowest, highest, HeldIn, Closed, FirstIn}
 use Rattle.matching.specs.Asked.{chain, noted}
-use Rattle.matching.specs.Path.{logged, Path, PathAsked, Within, Told, Logged, Marks, Marked}
+use Rattle.matching.specs.Path.{logged, Path, PathAsked, Within, Tells, Told, Logged, Marks, Marked}
 use Rattle.matching.specs.Images.{Cleared}
 use Rattle.matching.proofs.Family.{ParentView, root, child, parent-view}
 use Rattle.matching.proofs.Sides.{above-above}
@@ -23,11 +22,11 @@ use Rattle.matching.proofs.Placing.{at-other, earliest-same}
 use Rattle.matching.proofs.Keeps.{keeps-next}
 
 module _ (Fit : ℕ → ℕ → Type 0) (rd td : List ℕ) (kr : Outline rd) (kt : Outline td) where
-  -- of the trees that a window has whole, those that include c are told: the first to close of these is the first to hold c
+  -- the log tells of c for all rows of a window that has its trees whole: the first to close of those that it names is the first to hold c
   module _ (from hi c i : ℕ) (ls : List ℕ) (fits : hi ≤ length td) (whole : Closed td (suc from) hi)
-      (told : (t : ℕ) → from < t → t ≤ hi → (logged ls t ≤ i) ↔ Within Fit rd td c t) (held : HeldIn Fit rd td c (suc from) hi) where
+      (told : (t : ℕ) → from < t → t ≤ hi → Tells Fit rd td ls t i c) (held : HeldIn Fit rd td c (suc from) hi) where
     told-at : (t : ℕ) → suc from ≤ t → t ≤ hi → Holds Fit rd td c t → logged ls t ≤ i
-    told-at t a b h = (told t a b) .1 (t, omega arith, omega arith, h)
+    told-at t a b h = (told t a b) .0 h
 
     pub told-some : (y : ℕ) × (suc from ≤ y) × (y ≤ length td) × (logged ls y ≤ i)
     told-some = let (y, a, b, h) = held in (y, a, omega arith, told-at y a b h)
@@ -36,7 +35,7 @@ module _ (Fit : ℕ → ℕ → Type 0) (rd td : List ℕ) (kr : Outline rd) (kt
     told-first t f =
         let (y, a, b, h) = held in
         let g = narrow td kt (λ y. logged ls y ≤ i) (suc from) hi (length td) t (omega arith) fits (omega arith) whole y a b (told-at y a b h) f in
-        go g ((told t (g .low) (g .high)) .0 (g .holds))
+        go g ((told t (g .low) (g .high)) .1 (g .holds))
       where
         alone : (z : ℕ) → suc from ≤ t → t ≤ z → z ≤ lastRow td t → z ≤ hi → closing td t ≤ closing td z → Dec (z ≤ t) → z ≡ t
         alone z l a b h c (yes o) = omega arith
@@ -162,12 +161,12 @@ module _ (Fit : ℕ → ℕ → Type 0) (rd td : List ℕ) (kr : Outline rd) (kt
     up c o h a b (off q) (on i j e r) = omega arith
     up c o h a b (off q) (off r) = rw r (old .up c (omega arith) h (rw q at a) (omega arith))
 
-    abbrev Tells : ℕ → ℕ → Type 0
-    Tells c v =
+    abbrev TellsOf : ℕ → ℕ → Type 0
+    TellsOf c v =
         (y : ℕ) → at (set m′ n t) v ≤ y → y ≤ lastRow td (at (set m′ n t) v)
-        → ((u : ℕ) → u ≤ suc n → LeftOf rd u c → lastRow td (at (set m′ n t) u) < y) → (logged ms y ≤ at m′ c) ↔ Within Fit rd td c y
+        → ((u : ℕ) → u ≤ suc n → LeftOf rd u c → lastRow td (at (set m′ n t) u) < y) → Tells Fit rd td ms y (at m′ c) c
 
-    told : (c : ℕ) → suc n < c → c ≤ length rd → 1 ≤ at m′ c → Spot c → Later rd kr (suc n) c → (v : ℕ) × Ancestor rd v c × (v ≤ suc n) × Tells c v
+    told : (c : ℕ) → suc n < c → c ≤ length rd → 1 ≤ at m′ c → Spot c → Later rd kr (suc n) c → (v : ℕ) × Ancestor rd v c × (v ≤ suc n) × TellsOf c v
     told c o h a (on i j e q) d = (
       suc n,
       rw e at (path-below asked n k (p .path) top i j),
@@ -205,7 +204,7 @@ module _ (Fit : ℕ → ℕ → Type 0) (rd td : List ℕ) (kr : Outline rd) (kt
 
   -- the log tells of the whole window of the row after the placed ones, if that has a mark
   pub marked-window : (m : List ℕ) (n : ℕ) → Placed Fit rd td m n → (ls : List ℕ) → suc n ≤ length rd → Marked Fit rd td ls m n → 1 ≤ at m (suc n) → (t : ℕ)
-      → lowest rd td m (suc n) ≤ t → t ≤ highest rd td m (suc n) → (logged ls t ≤ at m (suc n)) ↔ Within Fit rd td (suc n) t
+      → lowest rd td m (suc n) ≤ t → t ≤ highest rd td m (suc n) → Tells Fit rd td ls t (at m (suc n)) (suc n)
   marked-window m n done ls fits k a t low high =
       let (v, b, l, f) = k .told (suc n) (omega arith) fits a in
       let x = keeps-next Fit rd td kr kt m n done fits t low high in

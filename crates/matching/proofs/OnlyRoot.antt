@@ -6,6 +6,7 @@ use Prim.Native.Nat.{ℕ, _+_, _-_, _≤_, _<_}
 use native.Mathlib.Omega.{arith}
 use native.Mathlib.Decide.{decLe}
 use lib.ListN.{length, getD}
+use Rattle.rows.specs.Limits.{listingRows}
 use Rattle.rows.specs.Rows.{Row, Outline, depth, descendants, lastRow}
 use Rattle.rows.specs.Forest.{Forest, size, forestAt, forest}
 use Rattle.rows.specs.Embedding.{SameLabel}
@@ -97,7 +98,7 @@ module _ {ws rl td tl : List ℕ} (k : Ready ws rl td tl) (one : 1 ≤ length (r
     all : forestAt td 0 (depth td 1) ≡ forest td
     all = forest-top td (k .listing .outline) n
 
-    pub first-through : r ≤ length td → (getD ss 0 0 ≡ cornerOf ws rl tl (forest td) 1) × Sizes
+    pub first-through : r ≤ listingRows → (getD ss 0 0 ≡ cornerOf ws rl tl (forest td) 1) × Sizes
     first-through o =
         let t = p .through o .1 in (
           t .ends .corners 0 (omega arith)
@@ -106,7 +107,7 @@ module _ {ws rl td tl : List ℕ} (k : Ready ws rl td tl) (one : 1 ≤ length (r
           (t .ends .chains .size, t .ends .words, t .kept .size),
         )
 
-    pub first-found : length td < r → (1 ≡ cornerOf ws rl tl (forest td) 1) × Known ws rl td tl (r - length td) × Sizes
+    pub first-found : listingRows < r → (1 ≡ cornerOf ws rl tl (forest td) 1) × Known ws rl td tl (r - listingRows) × Sizes
     first-found o =
         let g = p .found o in
         let last : 0 + size (forestAt td 0 (depth td 1)) ≡ length td = omega (arith, ap size all, size-forest td (k .listing .outline)) in

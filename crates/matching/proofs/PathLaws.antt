@@ -5,13 +5,13 @@ use Prim.Native.Nat.{ℕ, zero, suc, _≤_, _<_}
 use native.Mathlib.Omega.{arith}
 use native.Mathlib.Decide.{decLe}
 use lib.ListN.{length}
-use Rattle.rows.specs.Rows.{at, Row, Outline, descendants, lastRow, Ancestor}
+use Rattle.rows.specs.Rows.{at, Row, Outline, lastRow, Ancestor}
 use Rattle.rows.proofs.Depths.{inside-ends}
 use Rattle.rows.proofs.Order.{window}
 use Rattle.rows.proofs.Inclusion.{embeds-part}
 use Rattle.matching.specs.Family.{parent}
 use Rattle.matching.specs.Asked.{chain, Keep}
-use Rattle.matching.specs.EarliestClose.{Tree, Holds}
+use Rattle.matching.specs.EarliestClose.{Tree}
 use Rattle.matching.specs.Path.{logBytes, Path, Within, Told, Put, Kept}
 use Rattle.matching.proofs.Family.{ParentView, root, child, parent-view}
 use Rattle.matching.proofs.Holds.{rest-below}
@@ -51,16 +51,6 @@ above-child rd kr v c r o e = go (parent-view rd kr c r)
     go (child p) = rw e at (p .above)
 
 module _ (Fit : ℕ → ℕ → Type 0) (rd td : List ℕ) (kr : Outline rd) (kt : Outline td) where
-  -- a row with rows below it is held only by such rows
-  pub inner-held : (v t : ℕ) → Row rd v → 1 ≤ descendants rd v → Holds Fit rd td v t → 1 ≤ descendants td t
-  inner-held v t r o (e, x, k) = omega (arith, x, ap (lastRow td) x, rest-below Fit rd td kr kt v r e k (suc v) (omega arith) (omega arith))
-
-  -- so a row with none below it includes no row of a path
-  pub leaf-without : (v t : ℕ) → Row rd v → 1 ≤ descendants rd v → descendants td t ≡ 0 → Within Fit rd td v t → ⊥
-  leaf-without v t r o leaf (y, a, b, h) =
-      let e : y ≡ t = omega arith in
-      omega (arith, inner-held v t r o (rw e at h))
-
   -- a tree that includes a row includes each of its children
   pub within-down : (v c t : ℕ) → Row rd v → Row rd c → parent rd c ≡ v → Row td t → Within Fit rd td v t → Within Fit rd td c t
   within-down v c t q r e s (y, a, b, (d, i, k)) =

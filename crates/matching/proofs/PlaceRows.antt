@@ -2,7 +2,6 @@
 use mathlib.Core.Path.{_≡_, refl, sym, ap, subst, subst₂, _∙_}
 use mathlib.Core.Bool.{Bool, true, false}
 use mathlib.Core.List.{List}
-use mathlib.Core.Logic.{_↔_}
 use Prim.Native.Nat.{ℕ, zero, suc, _-_, _≤_, _<_}
 use native.Mathlib.Omega.{arith}
 use native.Mathlib.Decide.{decLe}
@@ -17,7 +16,7 @@ use Rattle.matching.specs.Placing.{Placed, barred, lowest, highest, Held
 use Rattle.matching.specs.Asked.{chain}
 use Rattle.matching.specs.Shape.{Shape}
 use Rattle.matching.specs.Linked.{Climbs}
-use Rattle.matching.specs.Path.{logBytes, logged, PathAsked, Within, Logged, Marks, Marked}
+use Rattle.matching.specs.Path.{logBytes, logged, PathAsked, Tells, Logged, Marks, Marked}
 use Rattle.matching.specs.Images.{Cleared, Begun, Stage}
 use Rattle.matching.specs.Room.{roomWords}
 use Rattle.rows.proofs.Depths.{inside-deeper}
@@ -111,7 +110,7 @@ module _ (Fit : ℕ → ℕ → Type 0) (rd td : List ℕ) (kr : Outline rd) (kt
 
     -- where the row has a mark, the log tells what its window holds
     module _ (ls : List ℕ) (marked : Marked Fit rd td ls m n) (o : 1 ≤ at m (suc n)) where
-      told : (t : ℕ) → from < t → t ≤ hi → (logged ls t ≤ at m (suc n)) ↔ Within Fit rd td (suc n) t
+      told : (t : ℕ) → from < t → t ≤ hi → Tells Fit rd td ls t (at m (suc n)) (suc n)
       told t a b = marked-window Fit rd td kr kt m n placed ls more marked o t (omega (arith, low)) b
 
       pub logged-some : (y : ℕ) × (suc from ≤ y) × (y ≤ length td) × (logged ls y ≤ at m (suc n))

@@ -5,6 +5,7 @@ use Prim.Native.Nat.{ℕ, suc, _+_, _-_, _≤_, _<_}
 use native.Mathlib.Omega.{arith}
 use native.Mathlib.Decide.{decLe}
 use lib.ListN.{length}
+use Rattle.rows.specs.Limits.{listingRows}
 use Rattle.rows.specs.Rows.{depth, lastRow}
 use Rattle.rows.specs.Forest.{size, forestAt}
 use Rattle.rows.specs.Embedding.{SameLabel}
@@ -38,8 +39,8 @@ lower e d o = omega arith
 
 -- the search stands behind r rows, or has found a row
 pub record Sweep (ws rl td tl asked ls : List ℕ) (l first : ℕ) (us ss ms : List ℕ) (r : ℕ) : Type 0 where
-  pub clear : r ≤ length td → Clear ws rl td tl asked ls l first us ss ms r
-  pub found : length td < r → Found ws rl td tl asked ls l first (length td) (r - length td) us ss ms
+  pub clear : r ≤ listingRows → Clear ws rl td tl asked ls l first us ss ms r
+  pub found : listingRows < r → Found ws rl td tl asked ls l first (length td) (r - listingRows) us ss ms
 
 module _ {ws rl td tl : List ℕ} (k : Ready ws rl td tl) {asked ls : List ℕ} {l first : ℕ} (p : PathAsked (recipeOf ws rl) asked l) where
   pub sweep-none : {rs : List ℕ} → length rs ≡ roomWords → length ls ≡ logBytes → first ≤ length td → Sweep ws rl td tl asked ls l first asked rs ls first
@@ -53,25 +54,25 @@ module _ {ws rl td tl : List ℕ} (k : Ready ws rl td tl) {asked ls : List ℕ} 
           kept = kept-none ls (suc first) first n;
           none = λ i. omega (arith, i .1, i .2);
         };
-        found = λ h. absurd (omega arith);
+        found = λ h. absurd (omega (arith, k .few));
       }
 
   module _ {us ss ms : List ℕ} {r : ℕ} (s : Sweep ws rl td tl asked ls l first us ss ms r) where
     -- some row of a window is to hold the row sought: behind the window it is found, and the first of all is the first of the window
     module _ {end : ℕ} (h : HeldIn (SameLabel rl tl) (recipeOf ws rl) td (chain asked 0) (suc first) end) (w : Whole td first end) (o : end ≤ r) where
-      pub sweep-beyond : length td < r
-      sweep-beyond = go (decLe r (length td))
+      pub sweep-beyond : listingRows < r
+      sweep-beyond = go (decLe r listingRows)
         where
-          go : Dec (r ≤ length td) → length td < r
+          go : Dec (r ≤ listingRows) → listingRows < r
           go (yes i) = absurd (s .clear i .none (h .0, h .1, omega (arith, h .2), h .3))
           go (no i) = omega arith
 
-      pub sweep-end : Found ws rl td tl asked ls l first end (r - length td) us ss ms
+      pub sweep-end : Found ws rl td tl asked ls l first end (r - listingRows) us ss ms
       sweep-end =
           let f = s .found sweep-beyond in
           record {
             some = f .some;
-            found = narrow td (k .listing .outline) _ (suc first) end (length td) (r - length td) (omega arith) (w .0) (omega arith) (w .1) (h .0) (h .1) (h .2) (h .3) (f .found);
+            found = narrow td (k .listing .outline) _ (suc first) end (length td) (r - listingRows) (omega arith) (w .0) (omega arith) (w .1) (h .0) (h .1) (h .2) (h .3) (f .found);
             words = f .words;
             logged = f .logged;
           }
@@ -80,13 +81,13 @@ module _ {ws rl td tl : List ℕ} (k : Ready ws rl td tl) {asked ls : List ℕ} 
     sweep-deep o h = go (decLe (h .0) r)
       where
         go : Dec (h .0 ≤ r) → depth (recipeOf ws rl) (chain asked 0) ≤ depth td (suc r)
-        go (yes i) = absurd (s .clear o .none (h .0, h .1, i, h .3))
-        go (no i) = h .4 (suc r) (omega (arith, s .clear o .start)) (omega arith)
+        go (yes i) = absurd (s .clear (omega (arith, k .few)) .none (h .0, h .1, i, h .3))
+        go (no i) = h .4 (suc r) (omega (arith, s .clear (omega (arith, k .few)) .start)) (omega arith)
 
     -- else the next forest is passed, which stands no higher than the row sought
     module _ (n : r < length td) where
       c : Clear ws rl td tl asked ls l first us ss ms r
-      c = s .clear (omega arith)
+      c = s .clear (omega (arith, k .few))
 
       pub sweep-size : length ms ≡ logBytes
       sweep-size = c .kept .size
@@ -105,7 +106,7 @@ module _ {ws rl td tl : List ℕ} (k : Ready ws rl td tl) {asked ls : List ℕ} 
       last = r + size (forestAt td r d)
 
       module _ {value : ℕ → ℕ} {e : ℕ} {vs ts os : List ℕ} (q : Passed ws rl td tl us ss ms 0 l value l r last e vs ts os) where
-        next-clear : e ≤ length td → Clear ws rl td tl asked ls l first vs ts os e
+        next-clear : e ≤ listingRows → Clear ws rl td tl asked ls l first vs ts os e
         next-clear x =
             let y = q .through x in
             rw (y .0)
@@ -119,10 +120,10 @@ module _ {ws rl td tl : List ℕ} (k : Ready ws rl td tl) {asked ls : List ℕ} 
               none = none-more ws rl td tl k (chain asked 0) (p .path .rows 0 (p .some)) first r last (c .start) (c .none) (rw (c .keep 0 (p .some)) at (y .1 .none (p .some)));
             }
 
-        next-found : length td < e → Found ws rl td tl asked ls l first (length td) (e - length td) vs ts os
+        next-found : listingRows < e → Found ws rl td tl asked ls l first (length td) (e - listingRows) vs ts os
         next-found x =
             let f = q .found x in
-            let t = e - length td in
+            let t = e - listingRows in
             let w = window-at td (k .listing .outline) r d (omega arith) (λ i. omega arith) in
             record {
               some = f .some;
@@ -142,8 +143,8 @@ module _ {ws rl td tl : List ℕ} (k : Ready ws rl td tl) {asked ls : List ℕ} 
         sweep-next = record { clear = next-clear; found = next-found }
 
         pub sweep-less : length td - e < length td - r
-        sweep-less = go (decLe e (length td))
+        sweep-less = go (decLe e listingRows)
           where
-            go : Dec (e ≤ length td) → length td - e < length td - r
+            go : Dec (e ≤ listingRows) → length td - e < length td - r
             go (yes x) = omega (arith, q .through x .0, ap size (at-step td r d n refl))
-            go (no x) = omega arith
+            go (no x) = omega (arith, k .few)

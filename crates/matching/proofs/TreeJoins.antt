@@ -1,17 +1,15 @@
--- A tree of the listing joins the corners kept: from the corners of the rows below it, or as a row alone. Assumes nothing.
+-- A tree of the listing joins the corners kept: from the corners of the rows below it, or as a row with nothing below it. Assumes nothing.
 use mathlib.Core.Path.{_≡_, refl, sym, ap, ap₂, _∙_}
-use mathlib.Core.Bool.{Bool, true, false, true≢false}
-use mathlib.Core.Logic.{_↔_}
+use mathlib.Core.Bool.{Bool}
 use mathlib.Core.List.{List}
 use Prim.Native.Nat.{ℕ, zero, suc, _+_, _-_, _≤_, _<_, min}
 use native.Mathlib.Omega.{arith}
-use native.Mathlib.Decide.{decLt, ℕ-discrete}
+use native.Mathlib.Decide.{ℕ-discrete}
 use lib.ListN.{length, getD}
 use Rattle.rows.specs.Rows.{at, Row, depth, Outline, descendants, lastRow}
 use Rattle.rows.specs.Forest.{Forest, nil, cons, size, forestAt, below}
-use Rattle.rows.proofs.Depths.{after-shallow, inside-deeper, last-fits}
-use Rattle.rows.proofs.DescendantLaws.{count-on, count-stop}
-use Rattle.rows.proofs.Windows.{at-end, size-below}
+use Rattle.rows.proofs.Depths.{inside-deeper, last-fits}
+use Rattle.rows.proofs.Windows.{size-below}
 use Rattle.matching.specs.Family.{rightSibling}
 use Rattle.matching.specs.CornerRow.{closeRow, joinRow, OnChain}
 use Rattle.matching.specs.Shape.{word}
@@ -19,31 +17,10 @@ use Rattle.matching.specs.Asked.{chain, noted, Asked, Member, after, Ext
 use Rattle.matching.specs.Room.{roomWords, roomFor, Written, named, sameLabel, recipeOf, closed, following, joined, alone, joinedAlone, Joins}
 use Rattle.matching.specs.Engine.{Ready, Begins, Ends, treeAt, cornerOf, withTree}
 use Rattle.matching.proofs.AskedLaws.{asked-few, member-kept}
-use Rattle.matching.proofs.CornerRow.{corner-nothing, corner-close, corner-fits}
+use Rattle.matching.proofs.CornerRow.{corner-close, corner-fits}
 use Rattle.matching.proofs.CornerWords.{alone-case}
 use Rattle.matching.proofs.Level.{right-fits}
 use Rattle.matching.proofs.Written.{room-more, following-none, following-some}
-
--- a row has rows below it just where the next row is deeper
-pub has-below : (td : List ℕ) (i : ℕ) → suc i < length td → getD td i 0 < getD td (suc i) 0 → 1 ≤ descendants td (suc i)
-has-below td i h l = omega (arith, count-on td (getD td i 0) (suc i) h l)
-
-pub below-has : (td : List ℕ) (i : ℕ) → suc i < length td → 1 ≤ descendants td (suc i) → getD td i 0 < getD td (suc i) 0
-below-has td i h l = go (decLt (getD td i 0) (getD td (suc i) 0))
-  where
-    go : Dec (getD td i 0 < getD td (suc i) 0) → getD td i 0 < getD td (suc i) 0
-    go (yes o) = o
-    go (no o) = absurd (omega (arith, count-stop td (getD td i 0) (suc i) h (omega arith)))
-
--- below a row that has no descendants there is nothing
-pub below-none : (td : List ℕ) (i : ℕ) → i < length td → descendants td (suc i) ≡ 0 → below td (suc i) ≡ nil
-below-none td i h leaf =
-    let e : lastRow td (suc i) ≡ suc i = omega arith in
-    at-end td (suc i) (suc (depth td (suc i))) (λ l. omega (arith, rw e at (after-shallow td (suc i) (omega arith))))
-
-pub none-below : (b : Bool) (n : ℕ) → ((b ≡ true) ↔ (1 ≤ n)) → b ≡ false → n ≡ 0
-none-below b zero k e = refl
-none-below b (suc n) k e = absurd (true≢false (sym (k .1 (omega arith)) ∙ e))
 
 -- of a row that has rows below it
 module _ (td : List ℕ) (o : Outline td) (i : ℕ) (h : i < length td) (more : 1 ≤ descendants td (suc i)) where
@@ -83,11 +60,10 @@ module _ (ws rl td tl : List ℕ) (k : Ready ws rl td tl) where
   unfolding closeRow
   close-of t x f r = sym (corner-close test rd (k .outline) x t f r)
 
-  -- and a row alone over nothing
-  alone-of : (t x : ℕ) → x ≤ length rd → alone ws rl (at tl t) x ≡ cornerOf ws rl tl (cons t nil nil) x
-  alone-of t zero h = alone-case ws rl (at tl t) (λ b. b ≡ 0) 0 refl refl
-  alone-of t (suc z) h =
-      ap (closeRow (named rl) rd (suc z) (at tl t)) (sym (corner-nothing test rd (suc z))) ∙ close-of t (suc z) nil (omega arith, h)
+  -- and a row over rows that have no corners
+  alone-of : (t x : ℕ) (f : Forest ℕ) → x ≤ length rd → cornerOf ws rl tl f x ≡ 0 → alone ws rl (at tl t) x ≡ cornerOf ws rl tl (cons t f nil) x
+  alone-of t zero f h e = alone-case ws rl (at tl t) (λ b. b ≡ 0) 0 refl refl
+  alone-of t (suc z) f h e = ap (closeRow (named rl) rd (suc z) (at tl t)) (sym e) ∙ close-of t (suc z) f (omega arith, h)
 
   -- a level's chains are few, and there is room for their corners
   module _ (asked rs : List ℕ) (base q first : ℕ) (b : Begins ws rl asked rs base q (depth td (suc first))) (h : first < length td) where
@@ -112,13 +88,10 @@ module _ (ws rl td tl : List ℕ) (k : Ready ws rl td tl) where
     extend-fits i l =
         omega (arith, fits i l .row, k .shape .few, right-word (getD rs (base + i) 0) (fits i l .row), right-fits rd (getD rs (base + i) 0))
 
-    -- a row alone
-    module _ (leaf : descendants td (suc first) ≡ 0) where
-      tree-alone : treeAt td first ≡ cons (suc first) nil nil
-      tree-alone = ap (λ (f : Forest ℕ). cons (suc first) f nil) (below-none td first h leaf)
-
-      pub alone-tree : (x : ℕ) → x ≤ length rd → alone ws rl name x ≡ cornerOf ws rl tl (treeAt td first) x
-      alone-tree x l = alone-of (suc first) x l ∙ ap (λ (f : Forest ℕ). cornerOf ws rl tl f x) (sym tree-alone)
+    -- a row with nothing below it that has a corner
+    module _ (empty : (x : ℕ) → x ≤ length rd → cornerOf ws rl tl (below td (suc first)) x ≡ 0) where
+      alone-tree : (x : ℕ) → x ≤ length rd → alone ws rl name x ≡ cornerOf ws rl tl (treeAt td first) x
+      alone-tree x l = alone-of (suc first) x (below td (suc first)) l (empty x l)
 
       right-low : (i : ℕ) → i < q → word 1 ws (getD rs (base + i) 0) ≤ length rd
       right-low i l = omega (arith, right-word (getD rs (base + i) 0) (fits i l .row), right-fits rd (getD rs (base + i) 0))

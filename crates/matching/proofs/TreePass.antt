@@ -6,20 +6,24 @@ use Prim.Native.Nat.{ℕ, suc, _+_, _-_, _≤_, _<_}
 use native.Mathlib.Omega.{arith}
 use native.Mathlib.Decide.{decLe, ℕ-discrete}
 use lib.ListN.{length, getD}
+use Rattle.rows.specs.Limits.{listingRows}
 use Rattle.rows.specs.Rows.{at, Row, depth, descendants, lastRow}
-use Rattle.rows.specs.Forest.{size, forestAt}
+use Rattle.rows.specs.Forest.{size, forestAt, below}
 use Rattle.rows.specs.Embedding.{SameLabel}
 use Rattle.rows.proofs.Depths.{last-fits}
+use Rattle.rows.proofs.Windows.{window-below, size-below}
 use Rattle.matching.specs.CornerRow.{OnChain}
+use Rattle.matching.specs.Shape.{Foreign}
 use Rattle.matching.specs.Asked.{chain, Keep, Extends}
 use Rattle.matching.specs.Room.{recipeOf, Written, closed, joined, joinedAlone}
-use Rattle.matching.specs.Path.{logBytes, Within, Told, Put, Kept, Level, FirstLevel}
-use Rattle.matching.specs.Engine.{Ready, Begins, Sought, Found, Through, Passed, treeAt, cornerOf, withTree}
+use Rattle.matching.specs.Path.{logBytes, Within, Told, Put, Kept, Blank, Level, FirstLevel}
+use Rattle.matching.specs.Engine.{Ready, Begins, Sought, Found, Through, Passed, Bare, treeAt, cornerOf, withTree}
 use Rattle.matching.proofs.AskedLaws.{asked-fewer}
+use Rattle.matching.proofs.Foreign.{bare-without, foreign-none}
 use Rattle.matching.proofs.Held.{held-tree}
 use Rattle.matching.proofs.TreeJoins.{corner-of-fits, below-last, leaf-ends, tree-corner, tree-ends}
 use Rattle.matching.proofs.Passes.{level-lies, found-below, found-here}
-use Rattle.matching.proofs.PathLaws.{path-same, path-down, told-same, kept-wide, kept-both, kept-one, leaf-without}
+use Rattle.matching.proofs.PathLaws.{path-same, path-down, told-same, kept-wide, kept-both, kept-one}
 
 module _ (ws rl td tl : List ℕ) (k : Ready ws rl td tl) (asked rs ls : List ℕ) (base q l first : ℕ) (b : Begins ws rl asked rs base q (depth td (suc first)))
     (h : first < length td) (s : Sought ws rl asked q l) (n : length ls ≡ logBytes) (fits : (i : ℕ) → i < q → OnChain (recipeOf ws rl) (chain asked i) (getD rs (base + i) 0)) where
@@ -42,31 +46,41 @@ module _ (ws rl td tl : List ℕ) (k : Ready ws rl td tl) (asked rs ls : List �
   -- the number of a tree's end, or of a row found, is no other's
   passed-through : (r : ℕ) (us ss ms : List ℕ) → r ≡ last
       → Through ws rl td tl asked rs ls base q (λ i. withTree ws rl td tl first (chain asked i) (getD rs (base + i) 0)) l first last us ss ms → TreePass r us ss ms
-  passed-through r us ss ms e t = record { through = λ o. (e, t); found = λ o. absurd (omega (arith, last-fits td (suc first) row)) }
+  passed-through r us ss ms e t = record { through = λ o. (e, t); found = λ o. absurd (omega (arith, last-fits td (suc first) row, k .few)) }
 
-  passed-found : (t r : ℕ) (us ss ms : List ℕ) → r ≡ length td + t → Found ws rl td tl asked ls l first last t us ss ms → TreePass r us ss ms
+  passed-found : (t r : ℕ) (us ss ms : List ℕ) → r ≡ listingRows + t → Found ws rl td tl asked ls l first last t us ss ms → TreePass r us ss ms
   passed-found t r us ss ms e f =
-      let m : r - length td ≡ t = omega arith in
+      let m : r - listingRows ≡ t = omega arith in
       record { through = λ o. absurd (omega (arith, f .found .low)); found = λ o. rw m f }
 
-  -- a row with no row below it includes no row of the path
-  module _ (leaf : descendants td (suc first) ≡ 0) where
+  -- a bare row includes no row of the path
+  module _ (r : ℕ) (some : 1 ≤ r) (bare : Bare ws td tl first r) where
+    ends : r ≡ last
+    ends = bare .last some
+
+    foreign : (y : ℕ) → suc first < y → y ≤ last → Foreign ws (at tl y)
+    foreign y a c = bare .foreign some y a (omega (arith, ends))
+
     without : (i : ℕ) → i < l → Within Fit rd td (chain asked i) (suc first) → ⊥
-    without i o = leaf-without Fit rd td (k .outline) (k .listing .outline) (chain asked i) (suc first) (s .path .rows i o) (s .path .inner i o) leaf
+    without i o = bare-without ws rl td tl k (suc first) (chain asked i) foreign (s .path .rows i o) (s .path .inner i o)
 
-    leaf-told : (ms : List ℕ) → Put ls first 15 l ms → (y : ℕ) → first < y → y ≤ last → Told Fit rd td asked l ms y
-    leaf-told ms p y a c i m o =
-        let e : y ≡ suc first = omega arith in
-        rw (e, p .here (omega arith)) (λ w. absurd (omega (arith, s .low)), λ w. absurd (without i o w))
+    bare-told : (ms : List ℕ) → Blank ls first r l ms → (y : ℕ) → first < y → y ≤ last → Told Fit rd td asked l ms y
+    bare-told ms p y a c i m o =
+        rw (p .none (omega arith) y a (omega (arith, ends))) (λ h. absurd (without i o (y, omega arith, c, h)), λ w. absurd (omega (arith, s .low)))
 
-    pub leaf-through : (ms : List ℕ) → Put ls first 15 l ms → (ss : List ℕ) → Written rs base q (joinedAlone ws rl (at tl (suc first)) asked rs base) ss → TreePass (suc first) asked ss ms
-    leaf-through ms p ss v =
-        passed-through (suc first) asked ss ms (omega arith)
+    empty : (x : ℕ) → x ≤ length rd → cornerOf ws rl tl (below td (suc first)) x ≡ 0
+    empty x h =
+        let w = window-below td (k .listing .outline) (suc first) row in
+        foreign-none ws rl td tl k (suc first) (below td (suc first)) (w .stands) (λ y a c. foreign y a (omega (arith, size-below td (k .listing .outline) (suc first) row))) x h
+
+    pub bare-through : (ms : List ℕ) → Blank ls first r l ms → (ss : List ℕ) → Written rs base q (joinedAlone ws rl (at tl (suc first)) asked rs base) ss → TreePass r asked ss ms
+    bare-through ms p ss v =
+        passed-through r asked ss ms ends
         record {
-          ends = leaf-ends ws rl td tl k asked rs base q first b h fits leaf ss v;
+          ends = leaf-ends ws rl td tl k asked rs base q first b h fits empty ss v;
           none = λ o. without 0 o;
-          told = leaf-told ms p;
-          kept = kept-one ls first 15 l ms last (omega arith) p;
+          told = bare-told ms p;
+          kept = rw ends at (p .kept);
         }
 
   -- a row with rows below it
@@ -92,19 +106,19 @@ module _ (ws rl td tl : List ℕ) (k : Ready ws rl td tl) (asked rs ls : List �
     pub sought-below : Sought ws rl us z l
     sought-below = record { some = omega (arith, x .least, s .some); few = omega (arith, x .least, s .few); low = s .low; path = path-same rd asked us l kept-path (s .path) }
 
-    pub below-found : (r : ℕ) (vs ss ms : List ℕ) → length td < r → BelowPass r vs ss ms → TreePass r vs ss ms
+    pub below-found : (r : ℕ) (vs ss ms : List ℕ) → listingRows < r → BelowPass r vs ss ms → TreePass r vs ss ms
     below-found r vs ss ms o p =
         let f = p .found o in
         let g = rw (last-row, kept-path 0 (f .some)) at (f .found) in
-        passed-found (r - length td) r vs ss ms (omega arith)
+        passed-found (r - listingRows) r vs ss ms (omega arith)
         record {
           some = f .some;
-          found = found-below ws rl td tl k (chain asked 0) (s .path .rows 0 (f .some)) first h (r - length td) g;
+          found = found-below ws rl td tl k (chain asked 0) (s .path .rows 0 (f .some)) first h (r - listingRows) g;
           words = f .words;
           logged = record {
             keep = λ i e. f .logged .keep i e ∙ kept-path i e;
             told = λ y a c. told-same Fit rd td asked us l ms y kept-path (f .logged .told y a c);
-            kept = kept-wide ls (suc (suc first)) (lastRow td (r - length td)) (suc first) (lastRow td (r - length td)) ms (omega arith) (omega arith) (f .logged .kept);
+            kept = kept-wide ls (suc (suc first)) (lastRow td (r - listingRows)) (suc first) (lastRow td (r - listingRows)) ms (omega arith) (omega arith) (f .logged .kept);
           };
         }
 
@@ -143,10 +157,10 @@ module _ (ws rl td tl : List ℕ) (k : Ready ws rl td tl) (asked rs ls : List �
         here-told : Told Fit rd td asked l ms (suc first)
         here-told i m o =
             rw (note .here (omega arith)) (
+              λ e. within-held i o (suc first, omega arith, omega arith, e),
               λ e.
                   let d : held < l = omega arith in
                   path-down Fit rd td (k .outline) (k .listing .outline) asked l (s .path) held i (suc first) e o row (level-within held d .0 (f .level d)),
-              within-held i o,
             )
 
         all-told : (y : ℕ) → first < y → y ≤ last → Told Fit rd td asked l ms y
@@ -161,7 +175,7 @@ module _ (ws rl td tl : List ℕ) (k : Ready ws rl td tl) (asked rs ls : List �
             kept-both ls (suc first) last ms₁ ms (rw last-row at (kept-wide ls (suc (suc first)) belowEnd (suc first) belowEnd ms₁ (omega arith) (omega arith) (p .kept)))
             (kept-one ms₁ first held l ms last (omega arith) note)
 
-        pub tree-found : held ≡ 0 → 1 ≤ l → (r : ℕ) → r ≡ length td + suc first → TreePass r vs rs₂ ms
+        pub tree-found : held ≡ 0 → 1 ≤ l → (r : ℕ) → r ≡ listingRows + suc first → TreePass r vs rs₂ ms
         tree-found e o r m =
             let d : held < l = omega arith in
             let w = level-within 0 o .0 (rw e at (f .level d)) in

@@ -4,12 +4,12 @@ use mathlib.Core.List.{List}
 use Prim.Native.Nat.{ℕ, suc, _+_, _-_, _≤_, _<_}
 use lib.ListN.{length, getD}
 use Rattle.rows.specs.Limits.{listingRows}
-use Rattle.rows.specs.Rows.{Outline, WellFormed}
+use Rattle.rows.specs.Rows.{at, descendants, lastRow, Outline, WellFormed}
 use Rattle.rows.specs.Forest.{Forest, nil, cons, below}
 use Rattle.rows.specs.Embedding.{SameLabel}
 use Rattle.matching.specs.Family.{rightSibling}
 use Rattle.matching.specs.CornerRow.{joinRow, cornerAt}
-use Rattle.matching.specs.Shape.{Shape, Kinds}
+use Rattle.matching.specs.Shape.{Shape, Foreign, Kinds}
 use Rattle.matching.specs.Asked.{Asked, Keep, chain}
 use Rattle.matching.specs.EarliestClose.{Holds}
 use Rattle.matching.specs.Placing.{HeldIn, FirstIn}
@@ -73,11 +73,18 @@ pub record Through (ws rl td tl asked rs ls : List ℕ) (base q : ℕ) (value : 
   pub told : (y : ℕ) → first < y → y ≤ last → Told (SameLabel rl tl) (recipeOf ws rl) td asked k ms y
   pub kept : Kept ls (suc first) last ms
 
--- how a pass ends, as one number: up to the listing's length it is how many rows stand before the end of a pass that went through;
--- beyond it, how much beyond is the row found
+-- how a pass ends, as one number: up to a listing's limit it is how many rows stand before the end of a pass that went through; beyond it,
+-- how much beyond is the row found
 pub record Passed (ws rl td tl asked rs ls : List ℕ) (base q : ℕ) (value : ℕ → ℕ) (k first last r : ℕ) (us ss ms : List ℕ) : Type 0 where
-  pub through : r ≤ length td → (r ≡ last) × Through ws rl td tl asked rs ls base q value k first last us ss ms
-  pub found : length td < r → Found ws rl td tl asked ls k first last (r - length td) us ss ms
+  pub through : r ≤ listingRows → (r ≡ last) × Through ws rl td tl asked rs ls base q value k first last us ss ms
+  pub found : listingRows < r → Found ws rl td tl asked ls k first last (r - listingRows) us ss ms
+
+-- the listing row behind `first` rows is bare if all rows below it have labels of kinds that the recipe has not: then r is the last of
+-- them, else 0
+pub record Bare (ws td tl : List ℕ) (first r : ℕ) : Type 0 where
+  pub last : 1 ≤ r → r ≡ lastRow td (suc first)
+  pub foreign : 1 ≤ r → (y : ℕ) → suc first < y → y ≤ r → Foreign ws (at tl y)
+  pub more : r ≡ 0 → 1 ≤ descendants td (suc first)
 
 -- t is the first listing row to close that holds recipe row 1, or 0 where that is not known
 abbrev pub Known : List ℕ → List ℕ → List ℕ → List ℕ → ℕ → Type 0

@@ -3,12 +3,12 @@
 use mathlib.Core.Path.{_≡_}
 use mathlib.Core.Bool.{true, false}
 use mathlib.Core.List.{List}
-use mathlib.Core.Logic.{_↔_}
 use Prim.Native.Nat.{ℕ, suc, _+_, _-_, _/_, _%_, _≤_, _<_}
 use lib.Dec.{leb}
 use lib.ListN.{length, getD, drop}
 use Rattle.rows.specs.Rows.{at, Row, depth, descendants, lastRow, Ancestor, LeftOf}
 use Rattle.matching.specs.Family.{parent}
+use Rattle.matching.specs.EarliestClose.{Holds}
 use Rattle.matching.specs.Placing.{HeldIn}
 use Rattle.matching.specs.Shape.{word}
 use Rattle.matching.specs.Asked.{Asked, Keep, chain}
@@ -40,10 +40,13 @@ logBytes = 2048
 unfoldable pub logged : List ℕ → ℕ → ℕ
 logged ls t = elim (leb t logBytes) [ true ↦ at ls t % 16 | false ↦ at ls (t - logBytes) / 16 ]
 
--- what the log has for listing row t is the place of the first row of the path that t's tree includes; it includes all later ones.
--- Of the path's first row nothing is told: that one is sought itself
+-- of listing row t and recipe row v at place i of a path: the log has at most i for t only if t's tree includes v, and it has if t holds v
+abbrev pub Tells : (ℕ → ℕ → Type 0) → List ℕ → List ℕ → List ℕ → ℕ → ℕ → ℕ → Type 0
+Tells Fit rd td ls t i v = (Holds Fit rd td v t → logged ls t ≤ i) × (logged ls t ≤ i → Within Fit rd td v t)
+
+-- so the log tells of listing row t and all rows of the path but its first: that one is sought itself
 abbrev pub Told : (ℕ → ℕ → Type 0) → List ℕ → List ℕ → List ℕ → ℕ → List ℕ → ℕ → Type 0
-Told Fit rd td asked k ls t = (i : ℕ) → 1 ≤ i → i < k → (logged ls t ≤ i) ↔ Within Fit rd td (chain asked i) t
+Told Fit rd td asked k ls t = (i : ℕ) → 1 ≤ i → i < k → Tells Fit rd td ls t i (chain asked i)
 
 -- the log ls got `place` for the row behind `first` rows, unless the path has less than two rows: ms
 pub record Put (ls : List ℕ) (first place k : ℕ) (ms : List ℕ) : Type 0 where
@@ -55,6 +58,11 @@ pub record Put (ls : List ℕ) (first place k : ℕ) (ms : List ℕ) : Type 0 wh
 pub record Kept (ls : List ℕ) (lo hi : ℕ) (ms : List ℕ) : Type 0 where
   pub size : length ms ≡ logBytes
   pub stays : (y : ℕ) → (lo ≤ y → y ≤ hi → ⊥) → logged ms y ≡ logged ls y
+
+-- the log ls got 15, the place of no row, for the rows behind `first` rows up to row r, unless the path has less than two rows: ms
+pub record Blank (ls : List ℕ) (first r k : ℕ) (ms : List ℕ) : Type 0 where
+  pub none : 2 ≤ k → (y : ℕ) → first < y → y ≤ r → logged ms y ≡ 15
+  pub kept : Kept ls (suc first) r ms
 
 -- a search behind `first` rows came upon row t: the path still stands in the chains us, the log tells of the tree at t, and of the rows
 -- before the search and behind that tree it says what it did
@@ -81,11 +89,11 @@ pub record Marks (rd asked : List ℕ) (k : ℕ) (m m′ : List ℕ) : Type 0 wh
   pub others : (c : ℕ) → ((i : ℕ) → 1 ≤ i → i < k → chain asked i ≡ c → ⊥) → at m′ c ≡ at m c
 
 -- what the marks in the map say, once its first n rows have their images. A mark at a later row c says where on a path c stands whose
--- upper rows have images or marks themselves; and of the listing rows below the image of one of its ancestors, right of the images of all rows
--- left of c, the log tells whether their trees include c
+-- upper rows have images or marks themselves; and of c the log tells for the listing rows below the image of one of its ancestors, right of
+-- the images of all rows left of c
 pub record Marked (Fit : ℕ → ℕ → Type 0) (rd td ls m : List ℕ) (n : ℕ) : Type 0 where
   pub up : (c : ℕ) → n < c → c ≤ length rd → 1 ≤ at m c → n < parent rd c → 1 ≤ at m (parent rd c)
   pub told : (c : ℕ) → n < c → c ≤ length rd → 1 ≤ at m c
       → (v : ℕ) × Ancestor rd v c × (v ≤ n)
       × ((t : ℕ) → at m v ≤ t → t ≤ lastRow td (at m v) → ((y : ℕ) → y ≤ n → LeftOf rd y c → lastRow td (at m y) < t)
-      → (logged ls t ≤ at m c) ↔ Within Fit rd td c t)
+      → Tells Fit rd td ls t (at m c) c)

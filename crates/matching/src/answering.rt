@@ -72,10 +72,10 @@ fn top_corner(
     asked[257] = 0;
     let k = sought_rows(shape);
     let end = forest_corners(depths, names, shape, labels, asked, room, log, 0, 1, k, 0);
-    if depths.len() < end {
+    if rows::LISTING_ROWS < end {
         return Top {
             corner: 1,
-            image: end - depths.len(),
+            image: end - rows::LISTING_ROWS,
         };
     }
     Top {

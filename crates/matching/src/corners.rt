@@ -4,13 +4,13 @@ ghost use mathlib.Core.Bool.{true};
 ghost use mathlib.Core.Logic.{_↔_};
 ghost use Prim.Native.Nat.{ℕ, suc, _≤_, _<_, _+_};
 ghost use lib.ListN.{length, getD};
-ghost use Rattle.rows.specs.Rows.{depth, descendants, lastRow};
+ghost use Rattle.rows.specs.Rows.{depth, lastRow};
 ghost use Rattle.rows.specs.Forest.{size, forestAt};
 ghost use Rattle.matching.specs.CornerRow.{OnChain};
-ghost use Rattle.matching.specs.Shape.{Shape, word, Kinds};
+ghost use Rattle.matching.specs.Shape.{Shape, word};
 ghost use Rattle.matching.specs.Asked.{chain, noted};
 ghost use Rattle.matching.specs.Path.{logBytes, FirstLevel};
-ghost use Rattle.matching.specs.Engine.{Ready, Begins, Sought, Passed, cornerOf, withTree};
+ghost use Rattle.matching.specs.Engine.{Ready, Begins, Sought, Passed, Bare, cornerOf, withTree};
 ghost use Rattle.matching.specs.Room.{roomWords, recipeOf, following, Written, closed, joined, joinedAlone, Joins};
 use crate::asked::extend;
 use crate::asked::wide;
@@ -19,8 +19,9 @@ use crate::joining::is_level;
 use crate::joining::join_alone;
 use crate::joining::join_row;
 use crate::log::write_log;
+use crate::log::write_none;
 use crate::shape::depth_of;
-use crate::shape::has_kind;
+use crate::shape::is_foreign;
 use crate::shape::right_of;
 
 // No corners yet: the q words of the room from base on become 0.
@@ -100,8 +101,7 @@ fn join_asked(
     }
 }
 
-// Joins a row with the label name that has no row below it to the q corners from base on; a label of a kind that the recipe has not
-// changes none.
+// Joins a row with the label name, below which nothing is found, to the q corners from base on.
 fn join_leaf(
     shape: &[u16; 1156],
     labels: &[u32],
@@ -111,14 +111,11 @@ fn join_leaf(
     base: usize,
     q: usize,
 )
-    requires { ⌜ Shape (recipeOf (now shape) (now labels)) (now shape) × Kinds (now labels) (now shape) ⌝ }
+    requires { ⌜ Shape (recipeOf (now shape) (now labels)) (now shape) ⌝ }
     requires { ⌜ (base + q ≤ roomWords) × (length (now room) ≡ roomWords) × (q ≤ 256) ⌝ }
     requires { ⌜ ((i : ℕ) → i < q → OnChain (recipeOf (now shape) (now labels)) (chain (now asked) i) (getD (now room) (base + i) 0)) ⌝ }
     ensures { λ r. ⌜ Written (now (room .entry)) base q (joinedAlone (now (shape .entry)) (now (labels .entry)) name (now (asked .entry)) (now (room .entry)) base) (now (room .exit)) ⌝ }
 {
-    if !has_kind(shape, name) {
-        return;
-    }
     let mut i = 0;
     while i < q {
         room[base + i] = join_alone(shape, labels, name, asked[i], room[base + i]);
@@ -126,15 +123,23 @@ fn join_leaf(
     }
 }
 
-// Whether the row behind `first` rows has rows below it.
-pub(crate) fn has_rows(depths: &[u16], first: usize) -> bool
-    requires { ⌜ first < length (now depths) ⌝ }
-    ensures { λ r. ⌜ (r ≡ true) ↔ (1 ≤ descendants (now (depths .entry)) (suc first)) ⌝ }
+// Where the row behind `first` rows is bare, that is, all rows below it have labels of kinds that the recipe has not: the last of its
+// tree. Else 0.
+fn bare_end(depths: &[u16], names: &[u32], shape: &[u16; 1156], first: usize) -> usize
+    requires { ⌜ (first < length (now depths)) × (length (now names) ≡ length (now depths)) ⌝ }
+    ensures { λ r. ⌜ Bare (now (shape .entry)) (now (depths .entry)) (now (names .entry)) first r ⌝ }
 {
-    if depths.len() <= first + 1 {
-        return false;
+    let mut end = first + 1;
+    while end < depths.len() {
+        if depths[end] <= depths[first] {
+            return end;
+        }
+        if !is_foreign(shape, names[end]) {
+            return 0;
+        }
+        end += 1;
     }
-    depths[first] < depths[first + 1]
+    end
 }
 
 // Of the corners from base on of the k chains asked first, the place of the first that stands on the level of its chain; k if none does.
@@ -171,7 +176,7 @@ fn is_found(held: usize, k: usize) -> bool
 
 // Tree against forest: the tree whose first row stands behind `first` rows of the listing joins the q corners from base on, unless
 // one of its rows holds the first of the k rows of the path. The log notes for each of its rows what its tree includes of the path.
-// Answers how many rows stand before the tree's end; or, beyond the listing's length, the row found.
+// Answers how many rows stand before the tree's end; or, beyond the limit of a listing, the row found.
 fn tree_corners(
     depths: &[u16],
     names: &[u32],
@@ -192,10 +197,11 @@ fn tree_corners(
         (λ i. withTree (now (shape .entry)) (now (labels .entry)) (now (depths .entry)) (now (names .entry)) first (chain (now (asked .entry)) i) (getD (now (room .entry)) (base + i) 0))
         k first (lastRow (now (depths .entry)) (suc first)) r (now (asked .exit)) (now (room .exit)) (now (log .exit)) ⌝ }
 {
-    if !has_rows(depths, first) {
-        write_log(log, first, 15, k);
+    let bare = bare_end(depths, names, shape, first);
+    if bare != 0 {
+        write_none(log, first, bare, k);
         join_leaf(shape, labels, names[first], asked, room, base, q);
-        return first + 1;
+        return bare;
     }
     let z = extend(shape, asked, room, base, q);
     let end = forest_corners(
@@ -211,21 +217,22 @@ fn tree_corners(
         k,
         first + 1,
     );
-    if depths.len() < end {
+    if rows::LISTING_ROWS < end {
         return end;
     }
     close_asked(shape, labels, names[first], asked, room, base + q, z);
     let held = first_level(shape, asked, room, base + q, k);
     write_log(log, first, held as u8, k);
     if is_found(held, k) {
-        return depths.len() + first + 1;
+        return rows::LISTING_ROWS + first + 1;
     }
     join_asked(shape, labels, asked, room, base, q, z);
     end
 }
 
 // Forest against forest: the corners from base on of the trees that stand side by side behind `first` rows of the listing, on
-// the q chains asked, unless one of their rows holds the first row of the path.
+// the q chains asked, unless one of their rows holds the first row of the path. A row with a label of a kind that the recipe has not is
+// passed over as if it were struck: the rows below it stand beside the others.
 pub(crate) fn forest_corners(
     depths: &[u16],
     names: &[u32],
@@ -251,19 +258,24 @@ pub(crate) fn forest_corners(
         if depths[at] < depths[first] {
             return at;
         }
-        at = tree_corners(
-            depths,
-            names,
-            shape,
-            labels,
-            asked,
-            room,
-            log,
-            base,
-            q,
-            k,
-            at,
-        );
+        if is_foreign(shape, names[at]) {
+            write_log(log, at, 15, k);
+            at += 1;
+        } else {
+            at = tree_corners(
+                depths,
+                names,
+                shape,
+                labels,
+                asked,
+                room,
+                log,
+                base,
+                q,
+                k,
+                at,
+            );
+        }
     }
     at
 }

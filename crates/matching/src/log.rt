@@ -1,11 +1,11 @@
 // The log of a pass: for each listing row half a byte, the place of the first row of the path that its tree includes.
 ghost use mathlib.Core.Path.{_≡_};
-ghost use Prim.Native.Nat.{suc, _/_, _%_, _<_};
+ghost use Prim.Native.Nat.{suc, _/_, _%_, _≤_, _<_};
 ghost use lib.ListN.{length};
 ghost use Rattle.rows.specs.Limits.{listingRows};
-ghost use Rattle.matching.specs.Path.{logBytes, logged, Put};
+ghost use Rattle.matching.specs.Path.{logBytes, logged, Put, Blank};
 
-pub(crate) fn widened(x: u8) -> u16
+fn widened(x: u8) -> u16
     ensures { λ r. ⌜ r ≡ x ⌝ }
 {
     x as u16
@@ -48,4 +48,16 @@ pub(crate) fn write_log(log: &mut [u8; 2048], first: usize, place: u8, k: usize)
         return;
     }
     log[first - 2048] = 16 * place + lower(log[first - 2048]);
+}
+
+// The log gets 15, which is the place of no row, for the rows behind `first` rows up to row `end`.
+pub(crate) fn write_none(log: &mut [u8; 2048], first: usize, end: usize, k: usize)
+    requires { ⌜ (first ≤ end) × (end ≤ listingRows) × (length (now log) ≡ logBytes) ⌝ }
+    ensures { λ r. ⌜ Blank (now (log .entry)) first end k (now (log .exit)) ⌝ }
+{
+    let mut at = first;
+    while at < end {
+        write_log(log, at, 15, k);
+        at += 1;
+    }
 }

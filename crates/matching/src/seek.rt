@@ -110,5 +110,5 @@ pub(crate) fn seek(
     while at < end {
         at = forest_corners(depths, names, shape, labels, asked, room, log, 0, k, k, at);
     }
-    at - depths.len()
+    at - rows::LISTING_ROWS
 }

@@ -1,5 +1,5 @@
 // The recipe's shape, four words a row: from word 4 * v on row v has its parent, right sibling, left-most leaf and depth. Behind these
-// stands a word for each kind of label.
+// stands a bit for each kind of label.
 use crate::leaves::find_leaves;
 use crate::link::link_rows;
 ghost use mathlib.Core.Path.{_≡_};
@@ -8,7 +8,7 @@ ghost use mathlib.Core.Logic.{_↔_};
 ghost use Prim.Native.Nat.{ℕ, _≤_, _<_};
 ghost use lib.ListN.{length, getD, set};
 ghost use Rattle.rows.specs.Rows.{Outline};
-ghost use Rattle.matching.specs.Shape.{word, kindWord, Kinds, Shape};
+ghost use Rattle.matching.specs.Shape.{word, kindWord, kindBit, Foreign, Kinds, Shape};
 
 // The parent of row v, 0 for a root.
 pub(crate) fn parent_of(shape: &[u16; 1156], v: u16) -> u16
@@ -52,21 +52,24 @@ fn clear_root(words: &mut [u16])
     words[3] = 0;
 }
 
-// The word that a label's kind has.
+// The word in which a label's kind is noted, and its bit there.
 fn kind_word(label: u32) -> usize
     ensures { λ r. ⌜ (r ≡ kindWord label) × (r < 1156) ⌝ }
 {
-    1028 + ((label / 8) % 128) as usize
+    1028 + ((label / 16) % 128) as usize
 }
 
-// Whether some label of the recipe may be this one: one of its kind is.
-pub(crate) fn has_kind(shape: &[u16; 1156], label: u32) -> bool
-    ensures { λ r. ⌜ (r ≡ true) ↔ (1 ≤ getD (now (shape .entry)) (kindWord label) 0) ⌝ }
+fn kind_bit(label: u32) -> u16
+    ensures { λ r. ⌜ r ≡ kindBit label ⌝ }
 {
-    if shape[kind_word(label)] == 0 {
-        return false;
-    }
-    true
+    1u16 << (label % 16)
+}
+
+// Whether the recipe has no label of this one's kind, and so surely not this label.
+pub(crate) fn is_foreign(shape: &[u16; 1156], label: u32) -> bool
+    ensures { λ r. ⌜ (r ≡ true) ↔ Foreign (now (shape .entry)) label ⌝ }
+{
+    shape[kind_word(label)] & kind_bit(label) == 0
 }
 
 // Notes the kinds of the recipe's labels; the rows' words stay.
@@ -76,7 +79,8 @@ fn note_kinds(labels: &[u32], shape: &mut [u16; 1156])
 {
     let mut i = 0;
     while i < labels.len() {
-        shape[kind_word(labels[i])] = 1;
+        let word = kind_word(labels[i]);
+        shape[word] = shape[word] | kind_bit(labels[i]);
         i += 1;
     }
 }

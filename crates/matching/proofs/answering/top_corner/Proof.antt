@@ -45,8 +45,8 @@ forest-corners-requires c κs =
       (first-begins (g .0 .0) (g .0 .1) (start .args .asked .now) (g .1 .0) f (g .1 .1) _, g .1 .2),
     )
 
-sub-t20 : tie.Need-sub-t20
-sub-t20 c = omega (arith, c .if2 .taken)
+sub-t19 : tie.Need-sub-t19
+sub-t19 c = omega (arith, c .if2 .taken)
 
 returns-2 : tie.Need-returns-2
 returns-2 c =
@@ -58,8 +58,8 @@ returns-2 c =
     let s = first-found (g .0 .0) (g .0 .1) (start .args .asked .now) (g .1 .0) (sought .sought-rows .ensures) n (c .before .forest-corners .ensures) (c .if2 .taken) in
     ((s .0, s .1), s .2)
 
-element-copy-out-t23 : tie.Need-element-copy-out-t23
-element-copy-out-t23 c = search needs
+element-copy-out-t22 : tie.Need-element-copy-out-t22
+element-copy-out-t22 c = search needs
 
 returns-3 : tie.Need-returns-3
 returns-3 c =
@@ -80,7 +80,7 @@ top-corner-spec =
     element-write-asked-2
     sought-rows-requires
     forest-corners-requires
-    sub-t20
+    sub-t19
     returns-2
-    element-copy-out-t23
+    element-copy-out-t22
     returns-3)

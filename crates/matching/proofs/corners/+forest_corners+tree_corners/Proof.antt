@@ -1,17 +1,18 @@
 -- `matching::corners::forest_corners` and `matching::corners::tree_corners` meet their contract: the two corner functions find the corner of every asked chain, or the row sought, note in the log what each tree includes of the path, and end by the rows left. Assumes nothing.
 use borrow.Author.Needs.{needs}
-use borrow.Author.Tests.{not-true, not-false}
+use Rattle.rows.specs.Limits.{listingRows}
 use Rattle.rows.specs.Rows.{descendants}
+use Rattle.rows.proofs.Depths.{last-fits}
 use Rattle.matching.proofs.AskedLaws.{asked-more}
-use Rattle.matching.proofs.TreeJoins.{none-below, level-room, few, extend-fits, more-rows, z-few, begins-below, z-room, close-fits, tree-joins}
-use Rattle.matching.proofs.TreePass.{belowEnd, BelowThrough, leaf-through, sought-below, below-found, below-fits, tree-found, tree-through}
+use Rattle.matching.proofs.TreeJoins.{level-room, few, extend-fits, more-rows, z-few, begins-below, z-room, close-fits, tree-joins}
+use Rattle.matching.proofs.TreePass.{belowEnd, BelowThrough, bare-through, sought-below, below-found, below-fits, tree-found, tree-through}
 use Prim.Native.Nat.{suc, _≤_, _+_, _-_, _*_}
 use mathlib.Core.Path.{_≡_, sym, _∙_}
 use mathlib.Core.Bool.{true≢false}
 use native.Mathlib.Omega.{arith}
 use native.Mathlib.Numerals.{add-one}
 use lib.ListN.{length}
-use Rattle.matching.proofs.ForestJoins.{Turn, turn-none, so-fits, so-sought, so-begins, turn-one, turn-less, turn-end}
+use Rattle.matching.proofs.ForestJoins.{Turn, turn-none, so-fits, so-sought, so-begins, turn-struck, turn-one, turn-less, turn-end}
 use Prim.Native.Nat.{ℕ, _<_}
 use borrow.Fn.Kinds.{In}
 use borrow.Fn.PlainCycle.{Measures, is, falls, and}
@@ -22,14 +23,16 @@ use Rattle.matching.proofs.corners.tree_corners.Reads as tree-corners
 use Rattle.matching.proofs.corners.tree_corners.Kinds as tree-corners-kinds
 use Rattle.matching.proofs.corners.+forest_corners+tree_corners.Lts-tree_corners as tree-corners-lts
 use Rattle.matching.proofs.asked.extend.Reads as extend-reads
+use Rattle.matching.proofs.corners.bare_end.Reads as bare-end-reads
 use Rattle.matching.proofs.corners.clear.Reads as clear-reads
 use Rattle.matching.proofs.corners.close_asked.Reads as close-asked-reads
 use Rattle.matching.proofs.corners.first_level.Reads as first-level-reads
-use Rattle.matching.proofs.corners.has_rows.Reads as has-rows-reads
 use Rattle.matching.proofs.corners.is_found.Reads as is-found-reads
 use Rattle.matching.proofs.corners.join_asked.Reads as join-asked-reads
 use Rattle.matching.proofs.corners.join_leaf.Reads as join-leaf-reads
 use Rattle.matching.proofs.log.write_log.Reads as write-log-reads
+use Rattle.matching.proofs.log.write_none.Reads as write-none-reads
+use Rattle.matching.proofs.shape.is_foreign.Reads as is-foreign-reads
 use Rattle.matching.proofs.corners.+forest_corners+tree_corners.{statement}
 use Rattle.matching.proofs.corners.+forest_corners+tree_corners.Tie.{close}
 
@@ -56,16 +59,20 @@ abbrev forest-claims : ℕ → forest-corners-lts.Claims
 forest-claims t = (
   clear-reads.Asked,
   clear-reads.Learnt,
+  is-foreign-reads.Asked,
+  is-foreign-reads.Learnt,
+  write-log-reads.Asked,
+  write-log-reads.Learnt,
   tree-corners-below t,
   tree-corners.Post,
 )
 
 abbrev tree-claims : ℕ → tree-corners-lts.Claims
 tree-claims t = (
-  has-rows-reads.Asked,
-  has-rows-reads.Learnt,
-  write-log-reads.Asked,
-  write-log-reads.Learnt,
+  bare-end-reads.Asked,
+  bare-end-reads.Learnt,
+  write-none-reads.Asked,
+  write-none-reads.Learnt,
   join-leaf-reads.Asked,
   join-leaf-reads.Learnt,
   extend-reads.Asked,
@@ -76,6 +83,8 @@ tree-claims t = (
   close-asked-reads.Learnt,
   first-level-reads.Asked,
   first-level-reads.Learnt,
+  write-log-reads.Asked,
+  write-log-reads.Learnt,
   is-found-reads.Asked,
   is-found-reads.Learnt,
   join-asked-reads.Asked,
@@ -121,46 +130,79 @@ forest-corners-returns t c =
     let cleared = turn .before .clear in
     turn-end (a .shape .now) (a .labels .now) (a .depths .now) (a .names .now) (start .pre .1 .0 .0) (a .asked .now) (a .room .now) (a .log .now) (a .base) (a .q) (a .k) (a .first) (start .pre .1 .1 .0) (start .pre .1 .0 .1) (start .pre .1 .0 .2) (start .pre .1 .1 .1) (cleared .last .0) (cleared .ensures) (turn .loop .asked) (turn .loop .room) (turn .loop .log) (turn .loop .at) (turn .loop .inv) (λ l. omega (arith, c .if1 .taken))
 
-forest-corners-tree-corners-requires : (t : ℕ) → forest-corners-lts.Need-tree-corners-requires (forest-claims t) (forest-corners-at t) forest-corners.Post forest-corners-Inv-loop forest-corners-μ-loop
-forest-corners-tree-corners-requires t c κs =
-    let turn = c .before .before .before .before .before .before .before in
+forest-corners-mul-is-foreign : (t : ℕ) → forest-corners-lts.Need-mul-is-foreign (forest-claims t) (forest-corners-at t) forest-corners.Post forest-corners-Inv-loop forest-corners-μ-loop
+forest-corners-mul-is-foreign t c = omega (arith, c .before .before .before .before .before .before .before .before .before .before .pre .1 .0 .0 .names)
+
+forest-corners-shared-slice-read-is-foreign : (t : ℕ) → forest-corners-lts.Need-shared-slice-read-is-foreign (forest-claims t) (forest-corners-at t) forest-corners.Post forest-corners-Inv-loop forest-corners-μ-loop
+forest-corners-shared-slice-read-is-foreign t c = omega (arith, c .before .before .before .before .before .before .before .before .before .before .before .pre .1 .0 .0 .names)
+
+forest-corners-is-foreign-requires : (t : ℕ) → forest-corners-lts.Need-is-foreign-requires (forest-claims t) (forest-corners-at t) forest-corners.Post forest-corners-Inv-loop forest-corners-μ-loop
+forest-corners-is-foreign-requires t c κs = search needs
+
+forest-corners-write-log-requires : (t : ℕ) → forest-corners-lts.Need-write-log-requires (forest-claims t) (forest-corners-at t) forest-corners.Post forest-corners-Inv-loop forest-corners-μ-loop
+forest-corners-write-log-requires t c κs =
+    let turn = c .before .before .before .before .before .before .before .before in
+    let start = turn .before .before .before .before .before .before in
+    let inside = c .before .before .before .before .before .before .before .loop-test .taken in
+    let low : turn .loop .at ≤ listingRows = omega (arith, inside, start .pre .1 .0 .0 .few) in
+    (omega (arith, inside, start .pre .1 .0 .0 .few), omega arith, turn .loop .inv .so low .kept .size)
+
+forest-corners-add-at : (t : ℕ) → forest-corners-lts.Need-add-at (forest-claims t) (forest-corners-at t) forest-corners.Post forest-corners-Inv-loop forest-corners-μ-loop
+forest-corners-add-at t c = omega (arith, c .before .before .before .before .before .before .before .before .loop-test .taken)
+
+forest-corners-loop-less : (t : ℕ) → forest-corners-lts.Need-loop-less (forest-claims t) (forest-corners-at t) forest-corners.Post forest-corners-Inv-loop forest-corners-μ-loop
+forest-corners-loop-less t c = omega (arith, c .before .before .before .before .before .before .before .before .loop-test .taken)
+
+forest-corners-loop-again : (t : ℕ) → forest-corners-lts.Need-loop-again (forest-claims t) (forest-corners-at t) forest-corners.Post forest-corners-Inv-loop forest-corners-μ-loop
+forest-corners-loop-again t c =
+    let turn = c .before .before .before .before .before .before .before .before .before in
     let start = turn .before .before .before .before .before .before in
     let a = start .args in
     let cleared = turn .before .clear in
-    let inside = c .before .before .before .before .before .before .loop-test .taken in
-    let low : turn .loop .at ≤ length (a .depths .now) = omega (arith, inside) in
+    let inside = c .before .before .before .before .before .before .before .before .loop-test .taken in
+    let low : turn .loop .at ≤ listingRows = omega (arith, inside, start .pre .1 .0 .0 .few) in
+    rw (add-one (turn .loop .at)) (turn-struck (a .shape .now) (a .labels .now) (a .depths .now) (a .names .now) (start .pre .1 .0 .0) (a .asked .now) (a .room .now) (a .log .now) (a .base) (a .q) (a .k) (a .first) (start .pre .1 .1 .0) (start .pre .1 .0 .1) (start .pre .1 .0 .2) (start .pre .1 .1 .1) (cleared .last .0) (cleared .ensures) (turn .loop .asked) (turn .loop .room) (turn .loop .log) (turn .loop .at) (turn .loop .inv) low (omega (arith, inside)) (omega (arith, c .before .before .before .before .before .if1 .left)) (c .before .before .before .is-foreign .ensures .0 (c .before .before .if2 .taken)) (c .write-log .last .0) (c .write-log .ensures))
+
+forest-corners-tree-corners-requires : (t : ℕ) → forest-corners-lts.Need-tree-corners-requires (forest-claims t) (forest-corners-at t) forest-corners.Post forest-corners-Inv-loop forest-corners-μ-loop
+forest-corners-tree-corners-requires t c κs =
+    let turn = c .before .before .before .before .before .before .before .before .before .before in
+    let start = turn .before .before .before .before .before .before in
+    let a = start .args in
+    let cleared = turn .before .clear in
+    let inside = c .before .before .before .before .before .before .before .before .before .loop-test .taken in
+    let low : turn .loop .at ≤ listingRows = omega (arith, inside, start .pre .1 .0 .0 .few) in
     let so = turn .loop .inv .so low in (
       omega (arith, start .pre .0, so .start, inside),
       (
         (start .pre .1 .0 .0, omega (arith, inside), so-sought (a .shape .now) (a .labels .now) (a .depths .now) (a .names .now) (start .pre .1 .0 .0) (a .asked .now) (a .room .now) (a .log .now) (a .base) (a .q) (a .k) (a .first) (start .pre .1 .1 .0) (start .pre .1 .0 .1) (start .pre .1 .0 .2) (start .pre .1 .1 .1) (cleared .last .0) (cleared .ensures) (turn .loop .asked) (turn .loop .room) (turn .loop .log) (turn .loop .at) (turn .loop .inv) low),
         (
-          (so-begins (a .shape .now) (a .labels .now) (a .depths .now) (a .names .now) (start .pre .1 .0 .0) (a .asked .now) (a .room .now) (a .log .now) (a .base) (a .q) (a .k) (a .first) (start .pre .1 .1 .0) (start .pre .1 .0 .1) (start .pre .1 .0 .2) (start .pre .1 .1 .1) (cleared .last .0) (cleared .ensures) (turn .loop .asked) (turn .loop .room) (turn .loop .log) (turn .loop .at) (turn .loop .inv) low (omega (arith, inside)) (omega (arith, c .before .before .before .if1 .left)), so .kept .size),
+          (so-begins (a .shape .now) (a .labels .now) (a .depths .now) (a .names .now) (start .pre .1 .0 .0) (a .asked .now) (a .room .now) (a .log .now) (a .base) (a .q) (a .k) (a .first) (start .pre .1 .1 .0) (start .pre .1 .0 .1) (start .pre .1 .0 .2) (start .pre .1 .1 .1) (cleared .last .0) (cleared .ensures) (turn .loop .asked) (turn .loop .room) (turn .loop .log) (turn .loop .at) (turn .loop .inv) low (omega (arith, inside)) (omega (arith, c .before .before .before .before .before .before .if1 .left)), so .kept .size),
           so-fits (a .shape .now) (a .labels .now) (a .depths .now) (a .names .now) (start .pre .1 .0 .0) (a .asked .now) (a .room .now) (a .log .now) (a .base) (a .q) (a .k) (a .first) (start .pre .1 .1 .0) (start .pre .1 .0 .1) (start .pre .1 .0 .2) (start .pre .1 .1 .1) (cleared .last .0) (cleared .ensures) (turn .loop .asked) (turn .loop .room) (turn .loop .log) (turn .loop .at) (turn .loop .inv) low,
         ),
       ),
     )
 
-forest-corners-loop-less : (t : ℕ) → forest-corners-lts.Need-loop-less (forest-claims t) (forest-corners-at t) forest-corners.Post forest-corners-Inv-loop forest-corners-μ-loop
-forest-corners-loop-less t c =
-    let turn = c .before .before .before .before .before .before .before .before in
+forest-corners-loop-less-2 : (t : ℕ) → forest-corners-lts.Need-loop-less-2 (forest-claims t) (forest-corners-at t) forest-corners.Post forest-corners-Inv-loop forest-corners-μ-loop
+forest-corners-loop-less-2 t c =
+    let turn = c .before .before .before .before .before .before .before .before .before .before .before in
     let start = turn .before .before .before .before .before .before in
     let a = start .args in
     let cleared = turn .before .clear in
-    let inside = c .before .before .before .before .before .before .before .loop-test .taken in
-    let low : turn .loop .at ≤ length (a .depths .now) = omega (arith, inside) in
+    let inside = c .before .before .before .before .before .before .before .before .before .before .loop-test .taken in
+    let low : turn .loop .at ≤ listingRows = omega (arith, inside, start .pre .1 .0 .0 .few) in
     let call = c .tree-corners in
-    turn-less (a .shape .now) (a .labels .now) (a .depths .now) (a .names .now) (start .pre .1 .0 .0) (a .asked .now) (a .room .now) (a .log .now) (a .base) (a .q) (a .k) (a .first) (start .pre .1 .1 .0) (start .pre .1 .0 .1) (start .pre .1 .0 .2) (start .pre .1 .1 .1) (cleared .last .0) (cleared .ensures) (turn .loop .asked) (turn .loop .room) (turn .loop .log) (turn .loop .at) (turn .loop .inv) low (omega (arith, inside)) (omega (arith, c .before .before .before .before .if1 .left)) (call .result) (call .last .1 .1 .1 .1 .0) (call .last .1 .1 .1 .1 .1 .0) (call .last .1 .1 .1 .1 .1 .1 .0) (call .ensures)
+    turn-less (a .shape .now) (a .labels .now) (a .depths .now) (a .names .now) (start .pre .1 .0 .0) (a .asked .now) (a .room .now) (a .log .now) (a .base) (a .q) (a .k) (a .first) (start .pre .1 .1 .0) (start .pre .1 .0 .1) (start .pre .1 .0 .2) (start .pre .1 .1 .1) (cleared .last .0) (cleared .ensures) (turn .loop .asked) (turn .loop .room) (turn .loop .log) (turn .loop .at) (turn .loop .inv) low (omega (arith, inside)) (omega (arith, c .before .before .before .before .before .before .before .if1 .left)) (call .result) (call .last .1 .1 .1 .1 .0) (call .last .1 .1 .1 .1 .1 .0) (call .last .1 .1 .1 .1 .1 .1 .0) (call .ensures)
 
-forest-corners-loop-again : (t : ℕ) → forest-corners-lts.Need-loop-again (forest-claims t) (forest-corners-at t) forest-corners.Post forest-corners-Inv-loop forest-corners-μ-loop
-forest-corners-loop-again t c =
-    let turn = c .before .before .before .before .before .before .before .before in
+forest-corners-loop-again-2 : (t : ℕ) → forest-corners-lts.Need-loop-again-2 (forest-claims t) (forest-corners-at t) forest-corners.Post forest-corners-Inv-loop forest-corners-μ-loop
+forest-corners-loop-again-2 t c =
+    let turn = c .before .before .before .before .before .before .before .before .before .before .before in
     let start = turn .before .before .before .before .before .before in
     let a = start .args in
     let cleared = turn .before .clear in
-    let inside = c .before .before .before .before .before .before .before .loop-test .taken in
-    let low : turn .loop .at ≤ length (a .depths .now) = omega (arith, inside) in
+    let inside = c .before .before .before .before .before .before .before .before .before .before .loop-test .taken in
+    let low : turn .loop .at ≤ listingRows = omega (arith, inside, start .pre .1 .0 .0 .few) in
     let call = c .tree-corners in
-    turn-one (a .shape .now) (a .labels .now) (a .depths .now) (a .names .now) (start .pre .1 .0 .0) (a .asked .now) (a .room .now) (a .log .now) (a .base) (a .q) (a .k) (a .first) (start .pre .1 .1 .0) (start .pre .1 .0 .1) (start .pre .1 .0 .2) (start .pre .1 .1 .1) (cleared .last .0) (cleared .ensures) (turn .loop .asked) (turn .loop .room) (turn .loop .log) (turn .loop .at) (turn .loop .inv) low (omega (arith, inside)) (omega (arith, c .before .before .before .before .if1 .left)) (call .result) (call .last .1 .1 .1 .1 .0) (call .last .1 .1 .1 .1 .1 .0) (call .last .1 .1 .1 .1 .1 .1 .0) (call .ensures)
+    turn-one (a .shape .now) (a .labels .now) (a .depths .now) (a .names .now) (start .pre .1 .0 .0) (a .asked .now) (a .room .now) (a .log .now) (a .base) (a .q) (a .k) (a .first) (start .pre .1 .1 .0) (start .pre .1 .0 .1) (start .pre .1 .0 .2) (start .pre .1 .1 .1) (cleared .last .0) (cleared .ensures) (turn .loop .asked) (turn .loop .room) (turn .loop .log) (turn .loop .at) (turn .loop .inv) low (omega (arith, inside)) (omega (arith, c .before .before .before .before .before .before .before .if1 .left)) (call .result) (call .last .1 .1 .1 .1 .0) (call .last .1 .1 .1 .1 .1 .0) (call .last .1 .1 .1 .1 .1 .1 .0) (call .ensures)
 
 forest-corners-returns-2 : (t : ℕ) → forest-corners-lts.Need-returns-2 (forest-claims t) (forest-corners-at t) forest-corners.Post forest-corners-Inv-loop forest-corners-μ-loop
 forest-corners-returns-2 t c =
@@ -170,26 +212,30 @@ forest-corners-returns-2 t c =
     let cleared = turn .before .clear in
     turn-end (a .shape .now) (a .labels .now) (a .depths .now) (a .names .now) (start .pre .1 .0 .0) (a .asked .now) (a .room .now) (a .log .now) (a .base) (a .q) (a .k) (a .first) (start .pre .1 .1 .0) (start .pre .1 .0 .1) (start .pre .1 .0 .2) (start .pre .1 .1 .1) (cleared .last .0) (cleared .ensures) (turn .loop .asked) (turn .loop .room) (turn .loop .log) (turn .loop .at) (turn .loop .inv) (λ l. absurd (omega (arith, c .loop-test .left)))
 
--- the row has no row below it, or has one
-no-rows : (t : ℕ) (c : tree-corners-lts.Then1 (tree-claims t) (tree-corners-at t) tree-corners.Post) → let a = c .before .before .before .before .before .args in descendants (a .depths .now) (suc (a .first)) ≡ 0
-no-rows t c = none-below _ _ (c .before .has-rows .ensures) (not-true _ (c .if1 .taken))
+-- the row is bare, or has rows below it
+bare-rows : (t : ℕ) (c : tree-corners-lts.Then1 (tree-claims t) (tree-corners-at t) tree-corners.Post) → 1 ≤ c .before .bare-end .result
+bare-rows t c = omega (arith, c .if1 .taken)
 
 some-rows : (t : ℕ) (c : tree-corners-lts.Else1 (tree-claims t) (tree-corners-at t) tree-corners.Post) → let a = c .before .before .before .before .before .args in 1 ≤ descendants (a .depths .now) (suc (a .first))
-some-rows t c = c .before .has-rows .ensures .0 (not-false _ (c .if1 .left))
+some-rows t c = c .before .bare-end .ensures .more (c .if1 .left)
 
 -- the pass over the rows below went through
 through : (t : ℕ) (c : tree-corners-lts.Else2 (tree-claims t) (tree-corners-at t) tree-corners.Post) → let call = c .before .forest-corners in let ext = c .before .before .before .before .before in let els = ext .before .before .before in let start = els .before .before .before .before .before in let a = start .args in
     (call .result ≡ belowEnd (a .shape .now) (a .labels .now) (a .depths .now) (a .names .now) (start .pre .1 .0 .0) (a .asked .now) (a .room .now) (a .log .now) (a .base) (a .q) (a .k) (a .first) (start .pre .1 .1 .0 .0) (start .pre .1 .0 .1) (start .pre .1 .0 .2) (start .pre .1 .1 .0 .1) (start .pre .1 .1 .1) (some-rows t els) (ext .extend .last .1 .0) (ext .extend .result) (ext .extend .ensures)) × BelowThrough (a .shape .now) (a .labels .now) (a .depths .now) (a .names .now) (start .pre .1 .0 .0) (a .asked .now) (a .room .now) (a .log .now) (a .base) (a .q) (a .k) (a .first) (start .pre .1 .1 .0 .0) (start .pre .1 .0 .1) (start .pre .1 .0 .2) (start .pre .1 .1 .0 .1) (start .pre .1 .1 .1) (some-rows t els) (ext .extend .last .1 .0) (ext .extend .result) (ext .extend .ensures) (call .last .1 .1 .1 .1 .0) (call .last .1 .1 .1 .1 .1 .0) (call .last .1 .1 .1 .1 .1 .1 .0)
 through t c = (rw add-one at (c .before .forest-corners .ensures)) .through (omega (arith, c .if2 .left))
 
-tree-corners-has-rows-requires : (t : ℕ) → tree-corners-lts.Need-has-rows-requires (tree-claims t) (tree-corners-at t) tree-corners.Post
-tree-corners-has-rows-requires t c κs = omega arith
+tree-corners-bare-end-requires : (t : ℕ) → tree-corners-lts.Need-bare-end-requires (tree-claims t) (tree-corners-at t) tree-corners.Post
+tree-corners-bare-end-requires t c κs =
+    let start = c .before .before .before in
+    (start .pre .1 .0 .1, start .pre .1 .0 .0 .names)
 
-tree-corners-write-log-requires : (t : ℕ) → tree-corners-lts.Need-write-log-requires (tree-claims t) (tree-corners-at t) tree-corners.Post
-tree-corners-write-log-requires t c κs =
+tree-corners-write-none-requires : (t : ℕ) → tree-corners-lts.Need-write-none-requires (tree-claims t) (tree-corners-at t) tree-corners.Post
+tree-corners-write-none-requires t c κs =
     let start = c .before .before .before .before .before .before in
     let a = start .args in
-    (omega (arith, start .pre .1 .0 .1, start .pre .1 .0 .0 .few), omega arith, start .pre .1 .1 .0 .1)
+    let e = c .before .before .bare-end .ensures .last (bare-rows t (c .before)) in
+    let l = last-fits (a .depths .now) (suc (a .first)) (omega (arith, start .pre .1 .0 .1)) in
+    (omega (arith, e), omega (arith, e, l, start .pre .1 .0 .0 .few), start .pre .1 .1 .0 .1)
 
 tree-corners-mul-join-leaf : (t : ℕ) → tree-corners-lts.Need-mul-join-leaf (tree-claims t) (tree-corners-at t) tree-corners.Post
 tree-corners-mul-join-leaf t c =
@@ -207,22 +253,20 @@ tree-corners-join-leaf-requires : (t : ℕ) → tree-corners-lts.Need-join-leaf-
 tree-corners-join-leaf-requires t c κs =
     let start = c .before .before .before .before .before .before .before .before .before .before in
     let a = start .args in (
-      (start .pre .1 .0 .0 .shape, start .pre .1 .0 .0 .kinds),
+      start .pre .1 .0 .0 .shape,
       (
         (level-room (a .shape .now) (a .labels .now) (a .depths .now) (a .names .now) (start .pre .1 .0 .0) (a .asked .now) (a .room .now) (a .base) (a .q) (a .first) (start .pre .1 .1 .0 .0) (start .pre .1 .0 .1), start .pre .1 .1 .0 .0 .words, omega (arith, few (a .shape .now) (a .labels .now) (a .depths .now) (a .names .now) (start .pre .1 .0 .0) (a .asked .now) (a .room .now) (a .base) (a .q) (a .first) (start .pre .1 .1 .0 .0) (start .pre .1 .0 .1), start .pre .1 .0 .0 .shape .few)),
         start .pre .1 .1 .1,
       ),
     )
 
-tree-corners-add-result : (t : ℕ) → tree-corners-lts.Need-add-result (tree-claims t) (tree-corners-at t) tree-corners.Post
-tree-corners-add-result t c = omega arith
-
 tree-corners-returns : (t : ℕ) → tree-corners-lts.Need-returns (tree-claims t) (tree-corners-at t) tree-corners.Post
 tree-corners-returns t c =
     let start = c .before .before .before .before .before .before .before .before .before .before .before in
     let a = start .args in
-    let note = c .before .before .before .before .write-log in
-    rw (add-one (a .first)) (leaf-through (a .shape .now) (a .labels .now) (a .depths .now) (a .names .now) (start .pre .1 .0 .0) (a .asked .now) (a .room .now) (a .log .now) (a .base) (a .q) (a .k) (a .first) (start .pre .1 .1 .0 .0) (start .pre .1 .0 .1) (start .pre .1 .0 .2) (start .pre .1 .1 .0 .1) (start .pre .1 .1 .1) (no-rows t (c .before .before .before .before .before .before)) (note .last .0) (note .ensures) (c .join-leaf .last .1 .1 .1 .1 .0) (c .join-leaf .ensures))
+    let bare = c .before .before .before .before .before .before .before .bare-end in
+    let note = c .before .before .before .before .write-none in
+    bare-through (a .shape .now) (a .labels .now) (a .depths .now) (a .names .now) (start .pre .1 .0 .0) (a .asked .now) (a .room .now) (a .log .now) (a .base) (a .q) (a .k) (a .first) (start .pre .1 .1 .0 .0) (start .pre .1 .0 .1) (start .pre .1 .0 .2) (start .pre .1 .1 .0 .1) (start .pre .1 .1 .1) (bare .result) (bare-rows t (c .before .before .before .before .before .before)) (bare .ensures) (note .last .0) (note .ensures) (c .join-leaf .last .1 .1 .1 .1 .0) (c .join-leaf .ensures)
 
 tree-corners-extend-requires : (t : ℕ) → tree-corners-lts.Need-extend-requires (tree-claims t) (tree-corners-at t) tree-corners.Post
 tree-corners-extend-requires t c κs =
@@ -331,8 +375,8 @@ tree-corners-cast-write-log t c =
     let a = start .args in
     omega (arith, c .before .first-level .ensures .most, start .pre .1 .0 .2 .low)
 
-tree-corners-write-log-requires-2 : (t : ℕ) → tree-corners-lts.Need-write-log-requires-2 (tree-claims t) (tree-corners-at t) tree-corners.Post
-tree-corners-write-log-requires-2 t c κs =
+tree-corners-write-log-requires : (t : ℕ) → tree-corners-lts.Need-write-log-requires (tree-claims t) (tree-corners-at t) tree-corners.Post
+tree-corners-write-log-requires t c κs =
     let ext = c .before .before .before .before .before .before .before .before .before .before .before .before .before in
     let els = ext .before .before .before in
     let start = els .before .before .before .before .before in
@@ -351,14 +395,14 @@ tree-corners-write-log-requires-2 t c κs =
 tree-corners-is-found-requires : (t : ℕ) → tree-corners-lts.Need-is-found-requires (tree-claims t) (tree-corners-at t) tree-corners.Post
 tree-corners-is-found-requires t c κs = search needs
 
-tree-corners-add-result-2 : (t : ℕ) → tree-corners-lts.Need-add-result-2 (tree-claims t) (tree-corners-at t) tree-corners.Post
-tree-corners-add-result-2 t c =
+tree-corners-add-result : (t : ℕ) → tree-corners-lts.Need-add-result (tree-claims t) (tree-corners-at t) tree-corners.Post
+tree-corners-add-result t c =
     let start = c .before .before .before .before .before .before .before .before .before .before .before .before .before .before .before .before .before .before .before .before .before .before .before .before in
     let a = start .args in
     omega (arith, start .pre .1 .0 .1, start .pre .1 .0 .0 .few)
 
-tree-corners-add-result-3 : (t : ℕ) → tree-corners-lts.Need-add-result-3 (tree-claims t) (tree-corners-at t) tree-corners.Post
-tree-corners-add-result-3 t c =
+tree-corners-add-result-2 : (t : ℕ) → tree-corners-lts.Need-add-result-2 (tree-claims t) (tree-corners-at t) tree-corners.Post
+tree-corners-add-result-2 t c =
     let start = c .before .before .before .before .before .before .before .before .before .before .before .before .before .before .before .before .before .before .before .before .before .before .before .before in
     let a = start .args in
     omega (arith, start .pre .1 .0 .1, start .pre .1 .0 .0 .few)
@@ -381,7 +425,7 @@ tree-corners-returns-3 t c =
     let rs₂ = c .before .before .before .before .before .before .before .close-asked .last .1 .1 .1 .1 .0 in
     let w = c .before .before .before .before .before .before .before .close-asked .ensures in
     let held = c .before .before .before .before .first-level in
-    let note = c .before .before .write-log2 in
+    let note = c .before .before .write-log in
     let e = c .before .is-found .ensures .0 (c .if3 .taken) in
     tree-found (a .shape .now) (a .labels .now) (a .depths .now) (a .names .now) (start .pre .1 .0 .0) (a .asked .now) (a .room .now) (a .log .now) (a .base) (a .q) (a .k) (a .first) (start .pre .1 .1 .0 .0) (start .pre .1 .0 .1) (start .pre .1 .0 .2) (start .pre .1 .1 .0 .1) (start .pre .1 .1 .1) m us z x vs rs₁ ms₁ (p .1) rs₂ w (held .result) (held .ensures) (note .last .0) (note .ensures) (e .0) (e .1) _ (omega arith)
 
@@ -422,7 +466,7 @@ tree-corners-returns-4 t c =
     let rs₂ = c .before .before .before .before .before .before .before .before .before .before .close-asked .last .1 .1 .1 .1 .0 in
     let w = c .before .before .before .before .before .before .before .before .before .before .close-asked .ensures in
     let held = c .before .before .before .before .before .before .before .first-level in
-    let note = c .before .before .before .before .before .write-log2 in
+    let note = c .before .before .before .before .before .write-log in
     let test = c .before .before .before .before .is-found in
     tree-through (a .shape .now) (a .labels .now) (a .depths .now) (a .names .now) (start .pre .1 .0 .0) (a .asked .now) (a .room .now) (a .log .now) (a .base) (a .q) (a .k) (a .first) (start .pre .1 .1 .0 .0) (start .pre .1 .0 .1) (start .pre .1 .0 .2) (start .pre .1 .1 .0 .1) (start .pre .1 .1 .1) m us z x vs rs₁ ms₁ (p .1) rs₂ w (held .result) (held .ensures) (note .last .0) (note .ensures) (λ e o. true≢false (sym (test .ensures .1 (e, o)) ∙ c .before .before .before .if3 .left)) (call .result) (p .0) (c .join-asked .last .1 .1 .1 .0) (c .join-asked .ensures)
 
@@ -440,19 +484,25 @@ pub +forest-corners+tree-corners-spec : {M : Type 1} → statement M
     (forest-corners-mul-if1-2 t)
     (forest-corners-shared-slice-read-if1-2 t)
     (forest-corners-returns t)
-    (forest-corners-tree-corners-requires t)
+    (forest-corners-mul-is-foreign t)
+    (forest-corners-shared-slice-read-is-foreign t)
+    (forest-corners-is-foreign-requires t)
+    (forest-corners-write-log-requires t)
+    (forest-corners-add-at t)
     (forest-corners-loop-less t)
     (forest-corners-loop-again t)
+    (forest-corners-tree-corners-requires t)
+    (forest-corners-loop-less-2 t)
+    (forest-corners-loop-again-2 t)
     (forest-corners-returns-2 t))
     λ t. tree-corners-lts.spec (tree-claims t)
     (tree-corners-at t)
     tree-corners.Post
-    (tree-corners-has-rows-requires t)
-    (tree-corners-write-log-requires t)
+    (tree-corners-bare-end-requires t)
+    (tree-corners-write-none-requires t)
     (tree-corners-mul-join-leaf t)
     (tree-corners-shared-slice-read-join-leaf t)
     (tree-corners-join-leaf-requires t)
-    (tree-corners-add-result t)
     (tree-corners-returns t)
     (tree-corners-extend-requires t)
     (tree-corners-add-forest-corners t)
@@ -466,10 +516,10 @@ pub +forest-corners+tree-corners-spec : {M : Type 1} → statement M
     (tree-corners-add-first-level t)
     (tree-corners-first-level-requires t)
     (tree-corners-cast-write-log t)
-    (tree-corners-write-log-requires-2 t)
+    (tree-corners-write-log-requires t)
     (tree-corners-is-found-requires t)
+    (tree-corners-add-result t)
     (tree-corners-add-result-2 t)
-    (tree-corners-add-result-3 t)
     (tree-corners-returns-3 t)
     (tree-corners-join-asked-requires t)
     (tree-corners-returns-4 t)

@@ -1,16 +1,12 @@
--- `matching::corners::join_leaf` meets its contract: a leaf of the listing is joined to what is known. Assumes nothing.
+-- `matching::corners::join_leaf` meets its contract: a row below which nothing is found is joined to what is known. Assumes nothing.
 use native.Mathlib.Omega.{arith}
-use mathlib.Core.Path.{_≡_, sym, ap, _∙_}
-use mathlib.Core.Bool.{true≢false}
-use borrow.Author.Needs.{needs}
-use borrow.Author.Tests.{not-true}
+use mathlib.Core.Path.{_≡_, ap, _∙_}
 use Prim.Native.Nat.{ℕ, _≤_, _-_, _+_}
 use native.Mathlib.Numerals.{add-one}
 use Rattle.matching.specs.Asked.{chain}
 use Rattle.matching.specs.Shape.{word}
 use Rattle.matching.specs.CornerRow.{joinRow}
 use Rattle.matching.specs.Room.{Written, recipeOf, joinedAlone, alone}
-use Rattle.matching.proofs.KindLaws.{unknown-joins}
 use Rattle.matching.proofs.Written.{written-none, written-one}
 use Rattle.matching.proofs.corners.join_leaf.Statement.{statement}
 use Rattle.matching.proofs.corners.join_leaf.Tie as tie
@@ -20,16 +16,6 @@ Inv-loop shape labels name asked room₀ base q i₀ room i = (i ≤ q) × Writt
 
 abbrev μ-loop : tie.MeasureT-loop
 μ-loop shape labels name asked room₀ base q i₀ room i = q - i
-
-has-kind-requires : tie.Need-has-kind-requires Inv-loop μ-loop
-has-kind-requires c κs = search needs
-
--- no recipe row has a label of this kind
-returns : tie.Need-returns Inv-loop μ-loop
-returns c =
-    let start = c .before .before .before in
-    let a = start .args in
-    unknown-joins (a .shape .now) (a .labels .now) (a .name) (start .pre .0 .1) (λ o. true≢false (sym (c .before .has-kind .ensures .1 o) ∙ not-true _ (c .if1 .taken))) (start .pre .0 .0) (a .asked .now) (a .room .now) (a .base) (a .q) (start .pre .1 .1)
 
 loop-holds : tie.Need-loop-holds Inv-loop μ-loop
 loop-holds c = (omega arith, written-none _ _ _)
@@ -52,8 +38,8 @@ element-copy-out-join-alone-2 c = omega arith
 join-alone-requires : tie.Need-join-alone-requires Inv-loop μ-loop
 join-alone-requires c κs =
     let turn = c .before .before .before in
-    let start = turn .before .before .before .before in
-    (start .pre .0 .0, rw (turn .loop .inv .1 .after (start .args .base + turn .loop .i) (omega arith)) (start .pre .1 .1 (turn .loop .i) (omega arith)))
+    let start = turn .before .before in
+    (start .pre .0, rw (turn .loop .inv .1 .after (start .args .base + turn .loop .i) (omega arith)) (start .pre .1 .1 (turn .loop .i) (omega arith)))
 
 add-room : tie.Need-add-room Inv-loop μ-loop
 add-room c = omega arith
@@ -73,7 +59,7 @@ loop-less c = omega arith
 loop-again : tie.Need-loop-again Inv-loop μ-loop
 loop-again c =
     let turn = c .before .before .before .before in
-    let start = turn .before .before .before .before in
+    let start = turn .before .before in
     let a = start .args in
     let i = turn .loop .i in
     let leaf = alone (a .shape .now) (a .labels .now) (a .name) in (
@@ -84,8 +70,8 @@ loop-again c =
           (turn .loop .inv .1 .after (a .base + i) (omega arith)))),
     )
 
-returns-2 : tie.Need-returns-2 Inv-loop μ-loop
-returns-2 c = let e : c .before .loop .i ≡ c .before .before .before .before .before .args .q = omega arith in rw e at (c .before .loop .inv .1)
+returns : tie.Need-returns Inv-loop μ-loop
+returns c = let e : c .before .loop .i ≡ c .before .before .before .args .q = omega arith in rw e at (c .before .loop .inv .1)
 
 pub join-leaf-spec : {M : Type 1} → statement M
 join-leaf-spec =
@@ -93,8 +79,6 @@ join-leaf-spec =
     (tie.spec
     Inv-loop
     μ-loop
-    has-kind-requires
-    returns
     loop-holds
     mul-join-alone
     element-copy-out-join-alone
@@ -108,4 +92,4 @@ join-leaf-spec =
     add-i
     loop-less
     loop-again
-    returns-2)
+    returns)

@@ -1,6 +1,6 @@
 -- `matching::shape::note_kinds` meets its contract: the kind of each label is noted, and the rows' words stay. Assumes nothing.
-use mathlib.Core.Path.{_≡_, sym, ap, _∙_}
-use Prim.Native.Nat.{ℕ, _≤_, _-_}
+use mathlib.Core.Path.{_≡_}
+use Prim.Native.Nat.{_≤_, _-_}
 use native.Mathlib.Omega.{arith}
 use native.Mathlib.Numerals.{add-one}
 use lib.ListN.{length}
@@ -28,21 +28,37 @@ kind-word-requires : tie.Need-kind-word-requires Inv-loop μ-loop
 kind-word-requires c κs = search needs
 
 mul-shape : tie.Need-mul-shape Inv-loop μ-loop
-mul-shape c = omega (arith, c .kind-word .ensures .1)
+mul-shape c = omega arith
+
+element-copy-out-shape : tie.Need-element-copy-out-shape Inv-loop μ-loop
+element-copy-out-shape c = omega arith
+
+mul-kind-bit : tie.Need-mul-kind-bit Inv-loop μ-loop
+mul-kind-bit c = omega arith
+
+shared-slice-read-kind-bit : tie.Need-shared-slice-read-kind-bit Inv-loop μ-loop
+shared-slice-read-kind-bit c = omega arith
+
+kind-bit-requires : tie.Need-kind-bit-requires Inv-loop μ-loop
+kind-bit-requires c κs = search needs
+
+mul-shape-2 : tie.Need-mul-shape-2 Inv-loop μ-loop
+mul-shape-2 c = omega arith
 
 element-write-shape : tie.Need-element-write-shape Inv-loop μ-loop
-element-write-shape c = omega (arith, c .kind-word .ensures .1, c .before .before .before .loop .inv .1 .size)
+element-write-shape c = omega arith
 
 add-i : tie.Need-add-i Inv-loop μ-loop
 add-i c = omega arith
 
 loop-less : tie.Need-loop-less Inv-loop μ-loop
-loop-less c = omega (arith, c .before .before .loop-test .taken)
+loop-less c = omega arith
 
 loop-again : tie.Need-loop-again Inv-loop μ-loop
 loop-again c =
-    let turn = c .before .before .before in
-    (omega (arith, c .before .before .loop-test .taken), rw (add-one (turn .loop .i)) (noted-one _ _ (turn .loop .shape) (turn .loop .i) (c .kind-word .result) (c .kind-word .ensures .0) (turn .loop .inv .1)))
+    let word = c .before .before .before in
+    let turn = word .before .before .before in
+    (omega arith, rw (add-one (turn .loop .i), word .kind-word .ensures .0, c .kind-bit .ensures) (noted-one _ _ (turn .loop .shape) (turn .loop .i) (turn .loop .inv .1)))
 
 returns : tie.Need-returns Inv-loop μ-loop
 returns c =
@@ -61,6 +77,11 @@ note-kinds-spec =
     shared-slice-read-kind-word
     kind-word-requires
     mul-shape
+    element-copy-out-shape
+    mul-kind-bit
+    shared-slice-read-kind-bit
+    kind-bit-requires
+    mul-shape-2
     element-write-shape
     add-i
     loop-less
