@@ -1,6 +1,8 @@
-// The examples E1 to E10 of document 01, each with its line. Brackets hold children.
+// The examples E1 to E10 of document 01, each with its line, and the sizes that only the inclusion call itself refuses. Brackets hold
+// children.
 use matching::Answer;
 use matching::Corner;
+use matching::Refusal;
 
 // Writes a space and a number.
 fn say(n: u64) {
@@ -17,6 +19,28 @@ fn say_corner(word: &[u8], corner: Corner) {
 fn say_images(map: &[u16]) {
     for i in 0..map.len() {
         say(map[i] as u64);
+    }
+}
+
+// Writes document 01's number of a refusal, and its place.
+fn say_refusal(number: u64, place: usize) {
+    io::write_all(1, b"refused");
+    say(number);
+    say(place as u64);
+}
+
+fn say_refused(refusal: Refusal) {
+    match refusal {
+        Refusal::RecipeSlices => say_refusal(1, 0),
+        Refusal::RecipeEmpty => say_refusal(2, 0),
+        Refusal::RecipeLong => say_refusal(3, 0),
+        Refusal::RecipeStep(row) => say_refusal(4, row),
+        Refusal::RecipeDeep(row) => say_refusal(5, row),
+        Refusal::ListingSlices => say_refusal(6, 0),
+        Refusal::ListingLong => say_refusal(7, 0),
+        Refusal::ListingStep(row) => say_refusal(8, row),
+        Refusal::ListingDeep(row) => say_refusal(9, row),
+        Refusal::MapShort => say_refusal(10, 0),
     }
 }
 
@@ -41,9 +65,7 @@ fn ask(
             say_images(map);
         }
         Answer::Absent(corner) => say_corner(b"absent", corner),
-        Answer::Refused(_) => {
-            io::write_all(1, b"refused");
-        }
+        Answer::Refused(refusal) => say_refused(refusal),
     }
     io::write_all(1, b"\n");
 }
@@ -122,6 +144,30 @@ fn e10() {
     ask(&[0, 1], &[10, 20], &[0], &[20], &mut [0, 0]);
 }
 
+// 256 recipe rows and 4,096 listing rows are taken, one more of either is refused
+fn largest() {
+    ask(
+        &[0; 256],
+        &[10; 256],
+        &[0; 4096],
+        &[20; 4096],
+        &mut [0; 256],
+    );
+}
+
+fn recipe_long() {
+    ask(&[0; 257], &[10; 257], &[0], &[10], &mut [0; 257]);
+}
+
+fn listing_long() {
+    ask(&[0], &[10], &[0; 4097], &[10; 4097], &mut [0]);
+}
+
+// a map of one slot for two recipe rows
+fn map_short() {
+    ask(&[0, 1], &[10, 20], &[0, 1], &[10, 20], &mut [0]);
+}
+
 fn main() {
     e1();
     e2();
@@ -133,4 +179,8 @@ fn main() {
     e8();
     e9();
     e10();
+    largest();
+    recipe_long();
+    listing_long();
+    map_short();
 }
