@@ -57,6 +57,25 @@ fn comb(height: u16) -> Table {
     Table { labels: vec![1; depths.len()], depths }
 }
 
+/// A recipe and a listing: the comb with a label of its own in its last row, and the comb with chains of that label behind each leaf.
+fn comb_among(height: u16, chains: usize, rows: u16) -> [Table; 2] {
+    let mut tables = [(); 2].map(|()| Table { depths: vec![], labels: vec![] });
+    let grow = |table: &mut Table, depth, label| {
+        table.depths.push(depth);
+        table.labels.push(label);
+    };
+    for depth in 0..height {
+        for table in &mut tables {
+            (depth..height.min(depth + 2)).for_each(|depth| grow(table, depth, 1));
+        }
+        for _ in 0..if depth + 1 < height { chains } else { 0 } {
+            (depth + 1..=63.min(depth + rows)).for_each(|depth| grow(&mut tables[1], depth, 2));
+        }
+    }
+    tables.iter_mut().for_each(|table| *table.labels.last_mut().unwrap() = 2);
+    tables
+}
+
 fn main() {
     println!("the whole way: microseconds of the C entry, questions a second, and its ratio to the second program");
     measure("document 01's whole case", &whole_case());
@@ -68,10 +87,16 @@ fn main() {
     let last_cycle = lost.depths.iter().rposition(|&depth| depth == 4).unwrap();
     lost.labels[last_cycle] = 7;
     measure("run folder, one row lost", &input(&recipe, &lost));
+    let small = Table { depths: recipe.depths[..19].to_vec(), labels: recipe.labels[..19].to_vec() };
+    measure("run folder, small recipe", &input(&small, &listing));
     measure("comb, h = 63", &input(&comb(31), &comb(63)));
     let mut other = comb(31);
     *other.labels.last_mut().unwrap() = 2;
     measure("comb, h = 63, last label new", &input(&other, &comb(63)));
+    let [recipe, listing] = comb_among(63, 31, 2);
+    measure("comb among pairs, h = 63", &input(&recipe, &listing));
+    let [recipe, listing] = comb_among(5, 100, 10);
+    measure("small comb among chains", &input(&recipe, &listing));
     let mut damaged = whole;
     *damaged.last_mut().unwrap() ^= 1;
     measure("run folder, a sum differs", &damaged);
