@@ -50,7 +50,7 @@ static void build(void)
     for (int i = 0; i < 128; i++)
         kinds[i] = 0;
     for (int v = m; v; v--)
-        kinds[rl[v - 1] / 16 % 128] |= (u16)(1 << rl[v - 1] % 16);
+        kinds[rl[v - 1] % 128] |= (u16)(1 << rl[v - 1] / 128 % 16);
     for (int v = m; v; v--)
         leaf[v] = v < m && rd[v] > rd[v - 1] ? leaf[v + 1] : (u16)v;
 }
@@ -73,7 +73,7 @@ static u16 join_row(u16 a, u16 b, u16 w)
 /* the recipe has no label of this kind */
 static int is_foreign(u32 name)
 {
-    return !(kinds[name / 16 % 128] >> name % 16 & 1);
+    return !(kinds[name % 128] >> name / 128 % 16 & 1);
 }
 
 /* behind the tree at this row where all rows below it are foreign, else 0 */
@@ -196,10 +196,13 @@ static int last_row(int t)
 
 static int is_good(const u16 *depths, int rows)
 {
-    int most = 0;
-    for (int i = 0; i < rows; most = depths[i++] + 1)
-        if (depths[i] > most || depths[i] > DEEPEST) return 0;
-    return 1;
+    int good = 1;
+    u16 most = 0;
+    for (int i = 0; i < rows; i++) {
+        if (depths[i] > most) good = 0;
+        most = depths[i] < DEEPEST ? (u16)(depths[i] + 1) : DEEPEST;
+    }
+    return good;
 }
 
 __attribute__((noinline)) static u64 same(void)

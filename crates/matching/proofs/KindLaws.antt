@@ -1,7 +1,7 @@
 -- The kinds of the recipe's labels: how they are noted. Assumes nothing.
 use mathlib.Core.Path.{_≡_, refl, _∙_}
 use mathlib.Core.List.{List}
-use Prim.Native.Nat.{ℕ, suc, _+_, _*_, _%_, _≤_, _<_}
+use Prim.Native.Nat.{ℕ, suc, _+_, _*_, _/_, _%_, _≤_, _<_}
 use native.Mathlib.Omega.{arith}
 use native.Mathlib.Decide.{decLe, ℕ-discrete}
 use lib.Bits.{bitAnd, bitOr}
@@ -29,7 +29,7 @@ module _ (ws : List ℕ) (a : ℕ) (size : length ws ≡ 1156) where
 
   -- it is noted then,
   noted : Foreign (note ws a) a → ⊥
-  noted f = omega (arith, rw same at f, and-set (getD ws (kindWord a) 0) (kindBit a), pow-pos (a % 16))
+  noted f = omega (arith, rw same at f, and-set (getD ws (kindWord a) 0) (kindBit a), pow-pos (a / 128 % 16))
 
   -- and no other kind is lost
   grows : (j n : ℕ) → Dec (j ≡ kindWord a) → bitAnd (getD ws j 0) n ≤ bitAnd (getD (note ws a) j 0) n

@@ -10,10 +10,10 @@ use Rattle.matching.specs.Family.{parent, rightSibling, leftLeaf}
 -- behind the words of the rows there is a bit for each of 2,048 kinds of labels, sixteen in a word: labels that leave the same
 -- remainder are of one kind
 abbrev pub kindWord : ℕ → ℕ
-kindWord a = 1028 + a / 16 % 128
+kindWord a = 1028 + a % 128
 
 abbrev pub kindBit : ℕ → ℕ
-kindBit a = 2 ^ (a % 16)
+kindBit a = 2 ^ (a / 128 % 16)
 
 -- no label of this one's kind is noted
 abbrev pub Foreign : List ℕ → ℕ → Type 0

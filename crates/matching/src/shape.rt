@@ -56,13 +56,13 @@ fn clear_root(words: &mut [u16])
 fn kind_word(label: u32) -> usize
     ensures { λ r. ⌜ (r ≡ kindWord label) × (r < 1156) ⌝ }
 {
-    1028 + ((label / 16) % 128) as usize
+    1028 + (label % 128) as usize
 }
 
 fn kind_bit(label: u32) -> u16
     ensures { λ r. ⌜ r ≡ kindBit label ⌝ }
 {
-    1u16 << (label % 16)
+    1u16 << (label / 128 % 16)
 }
 
 // Whether the recipe has no label of this one's kind, and so surely not this label.

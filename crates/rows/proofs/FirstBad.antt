@@ -1,5 +1,6 @@
 -- What `firstBad` finds: a finding is given exactly where it is true of the table. Assumes nothing.
 use mathlib.Core.Path.{_≡_, refl, sym, _∙_, ap, subst}
+use mathlib.Core.Bool.{Bool, true, false, false≢true}
 use mathlib.Core.List.{List}
 use mathlib.Core.Logic.{_↔_}
 use Prim.Native.Nat.{ℕ, zero, suc, _+_, _-_, _≤_, _<_}
@@ -16,11 +17,11 @@ use Rattle.rows.specs.FirstBad.{checkFrom, firstBad, mostAt, BadStepAt, 
 use Rattle.rows.proofs.CheckLaws.{check-step, check-deep, check-good, check-end}
 
 -- row v is good: its step, and its depth
-abbrev Good : List ℕ → ℕ → Type 0
+abbrev pub Good : List ℕ → ℕ → Type 0
 Good ds v = (depth ds v ≤ mostAt ds v) × (depth ds v ≤ deepest)
 
 -- the first n rows are good
-abbrev GoodTo : List ℕ → ℕ → Type 0
+abbrev pub GoodTo : List ℕ → ℕ → Type 0
 GoodTo ds n = (v : ℕ) → 1 ≤ v → v ≤ n → Good ds v
 
 -- a finding that is true of the table
@@ -91,6 +92,17 @@ module _ (ds : List ℕ) where
       go : Dec (v ≤ n) → Good ds v
       go (yes h) = g v p h
       go (no h) = let e : v ≡ suc n = omega arith in rw e k
+
+  -- whether the first n rows are good, and no depth over `most` is at the next: then whether one row more is
+  module _ (n most : ℕ) (fine : Bool) (m : (e : ℕ) → (e ≤ most) ↔ ((e ≤ mostAt ds (suc n)) × (e ≤ deepest))) (f : (fine ≡ true) ↔ GoodTo ds n) where
+    pub bad-next : most < depth ds (suc n) → (false ≡ true) ↔ GoodTo ds (suc n)
+    bad-next h = (λ e. absurd (false≢true e), λ g. let k = m (depth ds (suc n)) .1 (g (suc n) (omega arith) (omega arith)) in absurd (omega arith))
+
+    pub good-next : depth ds (suc n) ≤ most → (fine ≡ true) ↔ GoodTo ds (suc n)
+    good-next h = (λ e. more n (f .0 e) (m (depth ds (suc n)) .0 h), λ g. f .1 (λ v p q. g v p (omega arith)))
+
+  pub fine-good : WellFormed ds ↔ GoodTo ds (length ds)
+  fine-good = (good-of ds, of-good ds)
 
   -- some finding is true of the table: look at the k rows after n good ones
   look : (k n : ℕ) → n + k ≡ length ds → GoodTo ds n → Finding ds

@@ -1,7 +1,11 @@
 // The rows of a table: their depths, their opening and closing numbers, and the first row that is bad.
 ghost use mathlib.Core.Path.{_≡_};
+ghost use mathlib.Core.Bool.{true};
+ghost use mathlib.Core.Logic.{_↔_};
+ghost use Prim.Native.Nat.{ℕ, suc, _≤_};
 ghost use lib.Dec.{ltb};
-ghost use Rattle.rows.specs.Rows.{depth, descendants, lastRow, closing, isAncestor, isLeftOf};
+ghost use Rattle.rows.specs.Limits.{deepest};
+ghost use Rattle.rows.specs.Rows.{depth, descendants, lastRow, closing, isAncestor, isLeftOf, WellFormed};
 ghost use Rattle.rows.specs.FirstBad.{firstBad};
 
 // The most rows of a recipe and of a listing, and the largest depth.
@@ -24,10 +28,40 @@ pub enum RowCheck {
     TooDeep(usize),
 }
 
+// The most that a depth may be behind a row of depth d: one more, and 63 at most.
+fn most_after(d: u16) -> u16
+    ensures { λ r. ⌜ ((e : ℕ) → (e ≤ r) ↔ ((e ≤ suc d) × (e ≤ deepest))) ⌝ }
+{
+    if d < DEEPEST {
+        return d + 1;
+    }
+    DEEPEST
+}
+
+// Whether no row is bad. It never stops early: so the compiler looks at many rows at a time.
+fn is_fine(depths: &[u16]) -> bool
+    ensures { λ r. ⌜ (r ≡ true) ↔ WellFormed (now (depths .entry)) ⌝ }
+{
+    let mut fine = true;
+    let mut most: u16 = 0;
+    let mut i = 0;
+    while i < depths.len() {
+        if most < depths[i] {
+            fine = false;
+        }
+        most = most_after(depths[i]);
+        i += 1;
+    }
+    fine
+}
+
 // The first bad row: a first row below depth 0 or a depth more than one below the row before it, else a depth over 63.
 pub fn first_bad(depths: &[u16]) -> RowCheck
     ensures { λ r. ⌜ r ≡ firstBad (now (depths .entry)) ⌝ }
 {
+    if is_fine(depths) {
+        return RowCheck::Fine;
+    }
     let mut most: u16 = 0;
     let mut i = 0;
     while i < depths.len() {

@@ -1,7 +1,7 @@
 -- `matching::shape::kind_bit` meets its contract: no bit is shifted out. Assumes nothing.
 use borrow.Author.Needs.{needs}
 use mathlib.Core.Path.{_∙_}
-use Prim.Native.Nat.{_%_}
+use Prim.Native.Nat.{_/_, _%_}
 use native.Mathlib.Nat.{one-mul}
 use native.Mathlib.Omega.{arith}
 use lib.Pow.{shl-exact}
@@ -15,7 +15,7 @@ shl-result : tie.Need-shl-result
 shl-result c = search needs
 
 returns : tie.Need-returns
-returns c = shl-exact 1 (c .args .label % 16) 16 (omega arith) (omega arith) ∙ one-mul _
+returns c = shl-exact 1 (c .args .label / 128 % 16) 16 (omega arith) (omega arith) ∙ one-mul _
 
 pub kind-bit-spec : {M : Type 1} → statement M
 kind-bit-spec = tie.close (tie.spec cast-result shl-result returns)
