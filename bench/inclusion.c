@@ -327,6 +327,14 @@ static void all_asked(void)
     rl[m - 1] = 2;
 }
 
+/* One row, in a listing of rows of its kind that go down again and again and bear another label. */
+static void one_row(int height)
+{
+    n = m = 0;
+    m = grow(rd, rl, m, RECIPE, 0, 2049);
+    for (int i = 0; i < 4000; i++) n = grow(td, tl, n, LISTING, (u16)(i % height), 1);
+}
+
 static void chance(u32 labels, int flat, int slope)
 {
     n = LISTING, m = RECIPE;
@@ -398,6 +406,7 @@ int main(void)
     comb_among(63, 1, 31, 2, 3), wrong |= measure("comb among foreign pairs");
     comb_among(63, 3, 60, 1, 2), wrong |= measure("large comb among others");
     comb_among(5, 1, 100, 10, 2), wrong |= measure("small comb among chains");
+    one_row(14), wrong |= measure("one row among its kind");
     all_asked(), wrong |= measure("all chains asked");
     chance(1, 0, 0), wrong |= measure("one label, by chance");
     chance(2, 0, 8), wrong |= measure("two labels, deep");

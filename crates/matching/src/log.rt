@@ -1,4 +1,5 @@
-// The log of a pass: for each listing row half a byte, the place of the first row of the path that its tree includes.
+// The log of a pass: for each listing row half a byte, the place of the first row of the path that its tree includes; 15 where there is
+// none, and for rows that the pass did not look into.
 ghost use mathlib.Core.Path.{_≡_};
 ghost use Prim.Native.Nat.{suc, _/_, _%_, _≤_, _<_};
 ghost use lib.ListN.{length};

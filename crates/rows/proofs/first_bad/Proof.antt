@@ -1,5 +1,5 @@
--- `rows::first_bad` meets its contract: no row is bad, or the loop finds the first. The loop's invariant: the check of the rows from index i on is the whole table's. The measure is what is
--- left of the table. Assumes nothing.
+-- `rows::first_bad` meets its contract: no row is bad, or the loop finds the first. The loop's invariant: the check of the rows from index i
+-- on is the whole table's. The measure is what is left of the table. Assumes nothing.
 use borrow.Author.Needs.{needs}
 use mathlib.Core.Path.{_≡_, sym}
 use Prim.Native.Nat.{suc, _-_, _≤_}
