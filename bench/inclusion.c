@@ -85,6 +85,18 @@ static int bare_end(int first)
     return at;
 }
 
+/* behind the tree at this row where its rows, at most 16, all bear one label and no left-most leaf of the z chains asked has it, else 0 */
+static int idle_end(int z, int first)
+{
+    if (tl[first] != tl[first + 1]) return 0;
+    for (int i = 0; i < z; i++)
+        if (rl[leaf[asked[i]] - 1] == tl[first]) return 0;
+    int at = first + 1;
+    for (; at < n && td[at] > td[first]; at++)
+        if (tl[at] != tl[first] || at > first + 15) return 0;
+    return at;
+}
+
 /* A pass ends behind its rows, or at the first row to close that holds the first of the k rows of the path that are asked first: that
    is the row's number, negative. */
 static int forest_corners(int base, int q, int k, int first);
@@ -106,6 +118,12 @@ static int tree_corners(int base, int q, int k, int first)
     for (int i = 0; i < q; i++) {
         u16 y = right[room[base + i]];
         if (y && !(place[y] < z && asked[place[y]] == y)) asked[z] = y, place[y] = (u16)z++;
+    }
+    int idle = idle_end(z, first);
+    if (idle) {
+        for (int t = first; k > 1 && t < idle; t++)
+            logged[t] = PATH;
+        return idle;
     }
     int end = forest_corners(base + q, z, k, first + 1);
     if (end < 0) return end;

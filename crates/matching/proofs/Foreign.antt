@@ -6,21 +6,22 @@ use Prim.Native.Nat.{ℕ, zero, suc, _+_, _≤_, _<_}
 use native.Mathlib.Omega.{arith}
 use native.Mathlib.Decide.{decLe}
 use lib.ListN.{length}
-use borrow.Author.Tests.{eqb-true}
+use borrow.Author.Tests.{eqb-true, ne-eqb}
 use Rattle.rows.specs.Rows.{at, Row, descendants, lastRow}
 use Rattle.rows.specs.Forest.{Forest, nil, cons, size, beside}
 use Rattle.rows.specs.Stands.{Stands}
 use Rattle.rows.specs.Embedding.{SameLabel}
 use Rattle.rows.proofs.Depths.{last-fits}
-use Rattle.matching.specs.Family.{rightSibling}
-use Rattle.matching.specs.CornerRow.{joinRow}
+use Rattle.matching.specs.Family.{rightSibling, leftLeaf}
+use Rattle.matching.specs.CornerRow.{joinRow, corners}
 use Rattle.matching.specs.Shape.{Foreign}
 use Rattle.matching.specs.EarliestClose.{Holds}
 use Rattle.matching.specs.Path.{Within}
 use Rattle.matching.specs.Room.{recipeOf, sameLabel}
 use Rattle.matching.specs.Engine.{Ready, cornerOf}
-use Rattle.matching.proofs.CornerRow.{join-empty, corner-nothing, corner-unfit, corner-join}
+use Rattle.matching.proofs.CornerRow.{close-empty, join-empty, corner-unfit, corner-join}
 use Rattle.matching.proofs.Holds.{rest-below}
+use Rattle.matching.proofs.LeftLeaf.{leaf-within}
 use Rattle.matching.proofs.Level.{right-fits}
 use Rattle.matching.proofs.Width.{length-words}
 
@@ -74,16 +75,17 @@ module _ (ws rl td tl : List ℕ) (k : Ready ws rl td tl) where
       (corner-unfit test rd (k .outline) x t f r (λ v s e. foreign-fits t o v s (eqb-true (at rl v) (at tl t) e)))
       ∙ sym (corner-join test rd (k .outline) x f g r)
 
-  -- a forest of such rows alone has no corners
+  -- a forest in which no row has the label of x's left-most leaf has no corner on chain x
+  pub leafless : (x z : ℕ) (f : Forest ℕ) → Stands td z f → ((y : ℕ) → z < y → y ≤ z + size f → at rl (leftLeaf rd x) ≡ at tl y → ⊥) → corners test rd f x ≡ 0
+  leafless x z nil s o = refl
+  leafless x z (cons t f g) s o =
+      join-empty rd _ _ _
+      (close-empty test rd x t _ (leafless x (suc z) f (s .3) (λ y a b. o y (omega arith) (omega arith)))
+      (ne-eqb (at rl (leftLeaf rd x)) (at tl t) (rw (s .0) (o (suc z) (omega arith) (omega arith)))))
+      ∙ leafless x (suc (z + size f)) g (s .4) (λ y a b. o y (omega arith) (omega arith))
+
+  -- nor has a forest of such rows alone any
   pub foreign-none : (z : ℕ) (f : Forest ℕ) → Stands td z f → ((y : ℕ) → z < y → y ≤ z + size f → Foreign ws (at tl y)) → (x : ℕ) → x ≤ length rd
       → cornerOf ws rl tl f x ≡ 0
-  foreign-none z nil s o x h = corner-nothing test rd x
-  foreign-none z (cons t f g) s o zero h = refl
-  foreign-none z (cons t f g) s o (suc i) h =
-      let x = suc i in
-      let r : Row rd (suc i) = omega arith in
-      foreign-struck t f g (rw (s .0) (o (suc z) (omega arith) (omega arith))) x h
-      ∙ corner-join test rd (k .outline) x f g r
-      ∙ join-empty rd (cornerOf ws rl tl f x) (cornerOf ws rl tl g x) (cornerOf ws rl tl g (rightSibling rd (cornerOf ws rl tl f x)))
-      (foreign-none (suc z) f (s .3) (λ y a b. o y (omega arith) (omega arith)) x h)
-      ∙ foreign-none (suc (z + size f)) g (s .4) (λ y a b. o y (omega arith) (omega arith)) x h
+  foreign-none z f s o zero h = refl
+  foreign-none z f s o (suc i) h = leafless (suc i) z f s (λ y a b. foreign-fits y (o y a b) (leftLeaf rd (suc i)) (omega arith, leaf-within rd (suc i) h))

@@ -18,7 +18,7 @@ use Rattle.matching.specs.Placing.{HeldIn}
 use Rattle.matching.proofs.Holds.{rest-below}
 
 -- the tree at a row stands where the row does, and no tree of a forest ends behind it
-stands-tree : (ds : List ℕ) → Outline ds → (i : ℕ) → i < length ds → Stands ds i (cons (suc i) (below ds (suc i)) nil)
+pub stands-tree : (ds : List ℕ) → Outline ds → (i : ℕ) → i < length ds → Stands ds i (cons (suc i) (below ds (suc i)) nil)
 stands-tree ds k i h = (refl, h, sym (size-below ds k (suc i) (omega arith)), window-below ds k (suc i) (omega arith) .stands, tt)
 
 pub stands-ends : (ds : List ℕ) (z : ℕ) (f : Forest ℕ) → Stands ds z f → (y : ℕ) → Among z (size f) y → lastRow ds y ≤ z + size f

@@ -123,7 +123,7 @@ module _ (ws rl td tl : List ℕ) (k : Ready ws rl td tl) where
       rows-more = more-rows td (k .listing .outline) first h more
 
       module _ (us : List ℕ) (z : ℕ) (x : Extends ws asked rs base q q us z) where
-        chains-more : Asked (length rd) us z
+        pub chains-more : Asked (length rd) us z
         chains-more =
             x .asked (length rd) (k .shape .few)
             (λ i l. omega (arith, right-word (getD rs (base + i) 0) (fits i l .row), right-fits rd (getD rs (base + i) 0))) (b .chains)

@@ -17,11 +17,12 @@ use Rattle.matching.specs.Shape.{Foreign}
 use Rattle.matching.specs.Asked.{chain, Keep, Extends}
 use Rattle.matching.specs.Room.{recipeOf, Written, closed, joined, joinedAlone}
 use Rattle.matching.specs.Path.{logBytes, Within, Told, Put, Kept, Blank, Level, FirstLevel}
-use Rattle.matching.specs.Engine.{Ready, Begins, Sought, Found, Through, Passed, Bare, treeAt, cornerOf, withTree}
+use Rattle.matching.specs.Engine.{Ready, Begins, Sought, Ends, Found, Through, Passed, Bare, LeafAsked, Idle, treeAt, cornerOf, withTree}
 use Rattle.matching.proofs.AskedLaws.{asked-fewer}
 use Rattle.matching.proofs.Foreign.{bare-without, foreign-none}
 use Rattle.matching.proofs.Held.{held-tree}
-use Rattle.matching.proofs.TreeJoins.{corner-of-fits, below-last, leaf-ends, tree-corner, tree-ends}
+use Rattle.matching.proofs.IdleLaws.{idle-without, idle-ends}
+use Rattle.matching.proofs.TreeJoins.{corner-of-fits, below-last, leaf-ends, chains-more, tree-corner, tree-ends}
 use Rattle.matching.proofs.Passes.{level-lies, found-below, found-here}
 use Rattle.matching.proofs.PathLaws.{path-same, path-down, told-same, kept-wide, kept-both, kept-one}
 
@@ -53,7 +54,19 @@ module _ (ws rl td tl : List ℕ) (k : Ready ws rl td tl) (asked rs ls : List �
       let m : r - listingRows ≡ t = omega arith in
       record { through = λ o. absurd (omega (arith, f .found .low)); found = λ o. rw m f }
 
-  -- a bare row includes no row of the path
+  -- a tree that includes no row of the path: its rows get 15 in the log, and the corners are as `ends` says
+  without-through : (r : ℕ) → r ≡ last → ((i : ℕ) → i < l → Within Fit rd td (chain asked i) (suc first) → ⊥) → (us ss ms : List ℕ) → Blank ls first r l ms
+      → Ends ws rl asked rs base q (λ i. withTree ws rl td tl first (chain asked i) (getD rs (base + i) 0)) us ss → TreePass r us ss ms
+  without-through r e without us ss ms p ends =
+      passed-through r us ss ms e
+      record {
+        ends = ends;
+        none = λ o. without 0 o;
+        told = λ y a c i m o. rw (p .none (omega arith) y a (omega arith)) (λ h. absurd (without i o (y, omega arith, c, h)), λ w. absurd (omega (arith, s .low)));
+        kept = rw e at (p .kept);
+      }
+
+  -- a bare row
   module _ (r : ℕ) (some : 1 ≤ r) (bare : Bare ws td tl first r) where
     ends : r ≡ last
     ends = bare .last some
@@ -64,24 +77,13 @@ module _ (ws rl td tl : List ℕ) (k : Ready ws rl td tl) (asked rs ls : List �
     without : (i : ℕ) → i < l → Within Fit rd td (chain asked i) (suc first) → ⊥
     without i o = bare-without ws rl td tl k (suc first) (chain asked i) foreign (s .path .rows i o) (s .path .inner i o)
 
-    bare-told : (ms : List ℕ) → Blank ls first r l ms → (y : ℕ) → first < y → y ≤ last → Told Fit rd td asked l ms y
-    bare-told ms p y a c i m o =
-        rw (p .none (omega arith) y a (omega (arith, ends))) (λ h. absurd (without i o (y, omega arith, c, h)), λ w. absurd (omega (arith, s .low)))
-
     empty : (x : ℕ) → x ≤ length rd → cornerOf ws rl tl (below td (suc first)) x ≡ 0
     empty x h =
         let w = window-below td (k .listing .outline) (suc first) row in
         foreign-none ws rl td tl k (suc first) (below td (suc first)) (w .stands) (λ y a c. foreign y a (omega (arith, size-below td (k .listing .outline) (suc first) row))) x h
 
     pub bare-through : (ms : List ℕ) → Blank ls first r l ms → (ss : List ℕ) → Written rs base q (joinedAlone ws rl (at tl (suc first)) asked rs base) ss → TreePass r asked ss ms
-    bare-through ms p ss v =
-        passed-through r asked ss ms ends
-        record {
-          ends = leaf-ends ws rl td tl k asked rs base q first b h fits empty ss v;
-          none = λ o. without 0 o;
-          told = bare-told ms p;
-          kept = rw ends at (p .kept);
-        }
+    bare-through ms p ss v = without-through r ends without asked ss ms p (leaf-ends ws rl td tl k asked rs base q first b h fits empty ss v)
 
   -- a row with rows below it
   module _ (more : 1 ≤ descendants td (suc first)) (us : List ℕ) (z : ℕ) (x : Extends ws asked rs base q q us z) where
@@ -102,6 +104,16 @@ module _ (ws rl td tl : List ℕ) (k : Ready ws rl td tl) (asked rs ls : List �
 
     kept-path : Keep asked us l
     kept-path i o = x .keep i (omega (arith, s .few))
+
+    -- an idle tree
+    pub idle-through : (r : ℕ) → 1 ≤ r → Idle ws rl td tl us z first r → (ms : List ℕ) → Blank ls first r l ms → TreePass r us rs ms
+    idle-through r some idle ms p =
+        let e = idle .last some in
+        let chains = chains-more ws rl td tl k asked rs base q first b h fits more us z x in
+        let none : (y : ℕ) → first < y → y ≤ last → LeafAsked ws rl us z (at tl y) → ⊥ = λ y a c. idle .none some y a (omega arith) in
+        without-through r e
+        (λ i o w. idle-without ws rl td tl k asked rs base q first b h fits us z x chains none i (omega (arith, x .least, s .few)) (rw (kept-path i o) w)) us rs ms p
+        (idle-ends ws rl td tl k asked rs base q first b h fits us z x chains none)
 
     pub sought-below : Sought ws rl us z l
     sought-below = record { some = omega (arith, x .least, s .some); few = omega (arith, x .least, s .few); low = s .low; path = path-same rd asked us l kept-path (s .path) }

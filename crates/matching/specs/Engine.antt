@@ -9,7 +9,7 @@ use Rattle.rows.specs.Forest.{Forest, nil, cons, below}
 use Rattle.rows.specs.Embedding.{SameLabel}
 use Rattle.matching.specs.Family.{rightSibling}
 use Rattle.matching.specs.CornerRow.{joinRow, cornerAt}
-use Rattle.matching.specs.Shape.{Shape, Foreign, Kinds}
+use Rattle.matching.specs.Shape.{word, Shape, Foreign, Kinds}
 use Rattle.matching.specs.Asked.{Asked, Keep, chain}
 use Rattle.matching.specs.EarliestClose.{Holds}
 use Rattle.matching.specs.Placing.{HeldIn, FirstIn}
@@ -85,6 +85,16 @@ pub record Bare (ws td tl : List ℕ) (first r : ℕ) : Type 0 where
   pub last : 1 ≤ r → r ≡ lastRow td (suc first)
   pub foreign : 1 ≤ r → (y : ℕ) → suc first < y → y ≤ r → Foreign ws (at tl y)
   pub more : r ≡ 0 → 1 ≤ descendants td (suc first)
+
+-- the left-most leaf of one of the first z chains asked has the label a
+abbrev pub LeafAsked : List ℕ → List ℕ → List ℕ → ℕ → ℕ → Type 0
+LeafAsked ws rl asked z a = (i : ℕ) × (i < z) × (at rl (word 2 ws (chain asked i)) ≡ a)
+
+-- the tree of the listing row behind `first` rows is idle if no such leaf has the label of one of its rows: then r is the last of them, or
+-- 0. It is always 0 where the tree is not idle
+pub record Idle (ws rl td tl asked : List ℕ) (z first r : ℕ) : Type 0 where
+  pub last : 1 ≤ r → r ≡ lastRow td (suc first)
+  pub none : 1 ≤ r → (y : ℕ) → first < y → y ≤ r → LeafAsked ws rl asked z (at tl y) → ⊥
 
 -- t is the first listing row to close that holds recipe row 1, or 0 where that is not known
 abbrev pub Known : List ℕ → List ℕ → List ℕ → List ℕ → ℕ → Type 0

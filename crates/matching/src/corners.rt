@@ -14,6 +14,7 @@ ghost use Rattle.matching.specs.Engine.{Ready, Begins, Sought, Passed, B
 ghost use Rattle.matching.specs.Room.{roomWords, recipeOf, following, Written, closed, joined, joinedAlone, Joins};
 use crate::asked::extend;
 use crate::asked::wide;
+use crate::idle::idle_end;
 use crate::joining::close_row;
 use crate::joining::is_level;
 use crate::joining::join_alone;
@@ -204,6 +205,11 @@ fn tree_corners(
         return bare;
     }
     let z = extend(shape, asked, room, base, q);
+    let idle = idle_end(depths, names, shape, labels, asked, z, first);
+    if idle != 0 {
+        write_none(log, first, idle, k);
+        return idle;
+    }
     let end = forest_corners(
         depths,
         names,

@@ -14,7 +14,7 @@ use crate::shape::parent_of;
 use crate::shape::right_of;
 
 // The label of recipe row v; that of row 0 is 0.
-fn label_of(labels: &[u32], v: u16) -> u32
+pub(crate) fn label_of(labels: &[u32], v: u16) -> u32
     requires { ⌜ v ≤ length (now labels) ⌝ }
     ensures { λ r. ⌜ r ≡ at (now (labels .entry)) v ⌝ }
 {

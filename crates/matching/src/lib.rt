@@ -2,6 +2,7 @@
 mod answering;
 mod asked;
 mod corners;
+mod idle;
 mod images;
 mod joining;
 mod judging;

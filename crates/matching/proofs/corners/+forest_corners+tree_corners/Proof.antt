@@ -4,8 +4,8 @@ use Rattle.rows.specs.Limits.{listingRows}
 use Rattle.rows.specs.Rows.{descendants}
 use Rattle.rows.proofs.Depths.{last-fits}
 use Rattle.matching.proofs.AskedLaws.{asked-more}
-use Rattle.matching.proofs.TreeJoins.{level-room, few, extend-fits, more-rows, z-few, begins-below, z-room, close-fits, tree-joins}
-use Rattle.matching.proofs.TreePass.{belowEnd, BelowThrough, bare-through, sought-below, below-found, below-fits, tree-found, tree-through}
+use Rattle.matching.proofs.TreeJoins.{level-room, few, extend-fits, more-rows, z-few, chains-more, begins-below, z-room, close-fits, tree-joins}
+use Rattle.matching.proofs.TreePass.{belowEnd, BelowThrough, bare-through, idle-through, sought-below, below-found, below-fits, tree-found, tree-through}
 use Prim.Native.Nat.{suc, _≤_, _+_, _-_, _*_}
 use mathlib.Core.Path.{_≡_, sym, _∙_}
 use mathlib.Core.Bool.{true≢false}
@@ -30,6 +30,7 @@ use Rattle.matching.proofs.corners.first_level.Reads as first-level-rea
 use Rattle.matching.proofs.corners.is_found.Reads as is-found-reads
 use Rattle.matching.proofs.corners.join_asked.Reads as join-asked-reads
 use Rattle.matching.proofs.corners.join_leaf.Reads as join-leaf-reads
+use Rattle.matching.proofs.idle.idle_end.Reads as idle-end-reads
 use Rattle.matching.proofs.log.write_log.Reads as write-log-reads
 use Rattle.matching.proofs.log.write_none.Reads as write-none-reads
 use Rattle.matching.proofs.shape.is_foreign.Reads as is-foreign-reads
@@ -77,6 +78,8 @@ tree-claims t = (
   join-leaf-reads.Learnt,
   extend-reads.Asked,
   extend-reads.Learnt,
+  idle-end-reads.Asked,
+  idle-end-reads.Learnt,
   forest-corners-below t,
   forest-corners.Post,
   close-asked-reads.Asked,
@@ -220,9 +223,9 @@ some-rows : (t : ℕ) (c : tree-corners-lts.Else1 (tree-claims t) (tree-corners-
 some-rows t c = c .before .bare-end .ensures .more (c .if1 .left)
 
 -- the pass over the rows below went through
-through : (t : ℕ) (c : tree-corners-lts.Else2 (tree-claims t) (tree-corners-at t) tree-corners.Post) → let call = c .before .forest-corners in let ext = c .before .before .before .before .before in let els = ext .before .before .before in let start = els .before .before .before .before .before in let a = start .args in
+through : (t : ℕ) (c : tree-corners-lts.Else3 (tree-claims t) (tree-corners-at t) tree-corners.Post) → let call = c .before .forest-corners in let ext = c .before .before .before .before .before .before .before .before in let els = ext .before .before .before in let start = els .before .before .before .before .before in let a = start .args in
     (call .result ≡ belowEnd (a .shape .now) (a .labels .now) (a .depths .now) (a .names .now) (start .pre .1 .0 .0) (a .asked .now) (a .room .now) (a .log .now) (a .base) (a .q) (a .k) (a .first) (start .pre .1 .1 .0 .0) (start .pre .1 .0 .1) (start .pre .1 .0 .2) (start .pre .1 .1 .0 .1) (start .pre .1 .1 .1) (some-rows t els) (ext .extend .last .1 .0) (ext .extend .result) (ext .extend .ensures)) × BelowThrough (a .shape .now) (a .labels .now) (a .depths .now) (a .names .now) (start .pre .1 .0 .0) (a .asked .now) (a .room .now) (a .log .now) (a .base) (a .q) (a .k) (a .first) (start .pre .1 .1 .0 .0) (start .pre .1 .0 .1) (start .pre .1 .0 .2) (start .pre .1 .1 .0 .1) (start .pre .1 .1 .1) (some-rows t els) (ext .extend .last .1 .0) (ext .extend .result) (ext .extend .ensures) (call .last .1 .1 .1 .1 .0) (call .last .1 .1 .1 .1 .1 .0) (call .last .1 .1 .1 .1 .1 .1 .0)
-through t c = (rw add-one at (c .before .forest-corners .ensures)) .through (omega (arith, c .if2 .left))
+through t c = (rw add-one at (c .before .forest-corners .ensures)) .through (omega (arith, c .if3 .left))
 
 tree-corners-bare-end-requires : (t : ℕ) → tree-corners-lts.Need-bare-end-requires (tree-claims t) (tree-corners-at t) tree-corners.Post
 tree-corners-bare-end-requires t c κs =
@@ -274,18 +277,9 @@ tree-corners-extend-requires t c κs =
     let a = start .args in
     ((level-room (a .shape .now) (a .labels .now) (a .depths .now) (a .names .now) (start .pre .1 .0 .0) (a .asked .now) (a .room .now) (a .base) (a .q) (a .first) (start .pre .1 .1 .0 .0) (start .pre .1 .0 .1), asked-more _ 256 (a .asked .now) (a .q) (start .pre .1 .0 .0 .shape .few) (start .pre .1 .1 .0 .0 .chains)), extend-fits (a .shape .now) (a .labels .now) (a .depths .now) (a .names .now) (start .pre .1 .0 .0) (a .asked .now) (a .room .now) (a .base) (a .q) (a .first) (start .pre .1 .1 .0 .0) (start .pre .1 .0 .1) (start .pre .1 .1 .1))
 
-tree-corners-add-forest-corners : (t : ℕ) → tree-corners-lts.Need-add-forest-corners (tree-claims t) (tree-corners-at t) tree-corners.Post
-tree-corners-add-forest-corners t c =
-    let start = c .before .before .before .before .before .before .before .before .before .before .before in
-    let a = start .args in
-    omega (arith, level-room (a .shape .now) (a .labels .now) (a .depths .now) (a .names .now) (start .pre .1 .0 .0) (a .asked .now) (a .room .now) (a .base) (a .q) (a .first) (start .pre .1 .1 .0 .0) (start .pre .1 .0 .1))
-
-tree-corners-add-forest-corners-2 : (t : ℕ) → tree-corners-lts.Need-add-forest-corners-2 (tree-claims t) (tree-corners-at t) tree-corners.Post
-tree-corners-add-forest-corners-2 t c = omega arith
-
-tree-corners-forest-corners-requires : (t : ℕ) → tree-corners-lts.Need-forest-corners-requires (tree-claims t) (tree-corners-at t) tree-corners.Post
-tree-corners-forest-corners-requires t c κs =
-    let ext = c .before .before .before in
+tree-corners-idle-end-requires : (t : ℕ) → tree-corners-lts.Need-idle-end-requires (tree-claims t) (tree-corners-at t) tree-corners.Post
+tree-corners-idle-end-requires t c κs =
+    let ext = c .before in
     let els = ext .before .before .before in
     let start = els .before .before .before .before .before in
     let a = start .args in
@@ -293,7 +287,15 @@ tree-corners-forest-corners-requires t c κs =
     let us = ext .extend .last .1 .0 in
     let z = ext .extend .result in
     let x = ext .extend .ensures in
-    (omega (arith, start .pre .0), ((start .pre .1 .0 .0, omega (arith, more-rows (a .depths .now) (start .pre .1 .0 .0 .listing .outline) (a .first) (start .pre .1 .0 .1) m), sought-below (a .shape .now) (a .labels .now) (a .depths .now) (a .names .now) (start .pre .1 .0 .0) (a .asked .now) (a .room .now) (a .log .now) (a .base) (a .q) (a .k) (a .first) (start .pre .1 .1 .0 .0) (start .pre .1 .0 .1) (start .pre .1 .0 .2) (start .pre .1 .1 .0 .1) (start .pre .1 .1 .1) m us z x), (rw (add-one (a .first)) (begins-below (a .shape .now) (a .labels .now) (a .depths .now) (a .names .now) (start .pre .1 .0 .0) (a .asked .now) (a .room .now) (a .base) (a .q) (a .first) (start .pre .1 .1 .0 .0) (start .pre .1 .0 .1) (start .pre .1 .1 .1) m us z x), start .pre .1 .1 .0 .1)))
+    ((more-rows (a .depths .now) (start .pre .1 .0 .0 .listing .outline) (a .first) (start .pre .1 .0 .1) m, start .pre .1 .0 .0 .names), ((start .pre .1 .0 .0 .shape, omega (arith, z-few (a .shape .now) (a .labels .now) (a .depths .now) (a .names .now) (start .pre .1 .0 .0) (a .asked .now) (a .room .now) (a .base) (a .q) (a .first) (start .pre .1 .1 .0 .0) (start .pre .1 .0 .1) (start .pre .1 .1 .1) m us z x, start .pre .1 .0 .0 .shape .few)), λ i l. chains-more (a .shape .now) (a .labels .now) (a .depths .now) (a .names .now) (start .pre .1 .0 .0) (a .asked .now) (a .room .now) (a .base) (a .q) (a .first) (start .pre .1 .1 .0 .0) (start .pre .1 .0 .1) (start .pre .1 .1 .1) m us z x .rows i l .1))
+
+tree-corners-write-none-requires-2 : (t : ℕ) → tree-corners-lts.Need-write-none-requires-2 (tree-claims t) (tree-corners-at t) tree-corners.Post
+tree-corners-write-none-requires-2 t c κs =
+    let start = c .before .before .before .before .before .before .before .before .before .before .before .before in
+    let a = start .args in
+    let e = c .before .before .idle-end .ensures .last (omega (arith, c .before .if2 .taken)) in
+    let l = last-fits (a .depths .now) (suc (a .first)) (omega (arith, start .pre .1 .0 .1)) in
+    (omega (arith, e), omega (arith, e, l, start .pre .1 .0 .0 .few), start .pre .1 .1 .0 .1)
 
 tree-corners-returns-2 : (t : ℕ) → tree-corners-lts.Need-returns-2 (tree-claims t) (tree-corners-at t) tree-corners.Post
 tree-corners-returns-2 t c =
@@ -305,30 +307,64 @@ tree-corners-returns-2 t c =
     let us = ext .extend .last .1 .0 in
     let z = ext .extend .result in
     let x = ext .extend .ensures in
+    let idle = c .before .before .before .idle-end in
+    idle-through (a .shape .now) (a .labels .now) (a .depths .now) (a .names .now) (start .pre .1 .0 .0) (a .asked .now) (a .room .now) (a .log .now) (a .base) (a .q) (a .k) (a .first) (start .pre .1 .1 .0 .0) (start .pre .1 .0 .1) (start .pre .1 .0 .2) (start .pre .1 .1 .0 .1) (start .pre .1 .1 .1) m us z x (idle .result) (omega (arith, c .before .before .if2 .taken)) (idle .ensures) (c .write-none2 .last .0) (c .write-none2 .ensures)
+
+tree-corners-add-forest-corners : (t : ℕ) → tree-corners-lts.Need-add-forest-corners (tree-claims t) (tree-corners-at t) tree-corners.Post
+tree-corners-add-forest-corners t c =
+    let start = c .before .before .before .before .before .before .before .before .before .before .before .before .before .before in
+    let a = start .args in
+    omega (arith, level-room (a .shape .now) (a .labels .now) (a .depths .now) (a .names .now) (start .pre .1 .0 .0) (a .asked .now) (a .room .now) (a .base) (a .q) (a .first) (start .pre .1 .1 .0 .0) (start .pre .1 .0 .1))
+
+tree-corners-add-forest-corners-2 : (t : ℕ) → tree-corners-lts.Need-add-forest-corners-2 (tree-claims t) (tree-corners-at t) tree-corners.Post
+tree-corners-add-forest-corners-2 t c = omega arith
+
+tree-corners-forest-corners-requires : (t : ℕ) → tree-corners-lts.Need-forest-corners-requires (tree-claims t) (tree-corners-at t) tree-corners.Post
+tree-corners-forest-corners-requires t c κs =
+    let ext = c .before .before .before .before .before .before in
+    let els = ext .before .before .before in
+    let start = els .before .before .before .before .before in
+    let a = start .args in
+    let m = some-rows t els in
+    let us = ext .extend .last .1 .0 in
+    let z = ext .extend .result in
+    let x = ext .extend .ensures in
+    (omega (arith, start .pre .0), ((start .pre .1 .0 .0, omega (arith, more-rows (a .depths .now) (start .pre .1 .0 .0 .listing .outline) (a .first) (start .pre .1 .0 .1) m), sought-below (a .shape .now) (a .labels .now) (a .depths .now) (a .names .now) (start .pre .1 .0 .0) (a .asked .now) (a .room .now) (a .log .now) (a .base) (a .q) (a .k) (a .first) (start .pre .1 .1 .0 .0) (start .pre .1 .0 .1) (start .pre .1 .0 .2) (start .pre .1 .1 .0 .1) (start .pre .1 .1 .1) m us z x), (rw (add-one (a .first)) (begins-below (a .shape .now) (a .labels .now) (a .depths .now) (a .names .now) (start .pre .1 .0 .0) (a .asked .now) (a .room .now) (a .base) (a .q) (a .first) (start .pre .1 .1 .0 .0) (start .pre .1 .0 .1) (start .pre .1 .1 .1) m us z x), start .pre .1 .1 .0 .1)))
+
+tree-corners-returns-3 : (t : ℕ) → tree-corners-lts.Need-returns-3 (tree-claims t) (tree-corners-at t) tree-corners.Post
+tree-corners-returns-3 t c =
+    let ext = c .before .before .before .before .before .before .before .before in
+    let els = ext .before .before .before in
+    let start = els .before .before .before .before .before in
+    let a = start .args in
+    let m = some-rows t els in
+    let us = ext .extend .last .1 .0 in
+    let z = ext .extend .result in
+    let x = ext .extend .ensures in
     let call = c .before .forest-corners in
-    below-found (a .shape .now) (a .labels .now) (a .depths .now) (a .names .now) (start .pre .1 .0 .0) (a .asked .now) (a .room .now) (a .log .now) (a .base) (a .q) (a .k) (a .first) (start .pre .1 .1 .0 .0) (start .pre .1 .0 .1) (start .pre .1 .0 .2) (start .pre .1 .1 .0 .1) (start .pre .1 .1 .1) m us z x (call .result) (call .last .1 .1 .1 .1 .0) (call .last .1 .1 .1 .1 .1 .0) (call .last .1 .1 .1 .1 .1 .1 .0) (c .if2 .taken) (rw add-one at (call .ensures))
+    below-found (a .shape .now) (a .labels .now) (a .depths .now) (a .names .now) (start .pre .1 .0 .0) (a .asked .now) (a .room .now) (a .log .now) (a .base) (a .q) (a .k) (a .first) (start .pre .1 .1 .0 .0) (start .pre .1 .0 .1) (start .pre .1 .0 .2) (start .pre .1 .1 .0 .1) (start .pre .1 .1 .1) m us z x (call .result) (call .last .1 .1 .1 .1 .0) (call .last .1 .1 .1 .1 .1 .0) (call .last .1 .1 .1 .1 .1 .1 .0) (c .if3 .taken) (rw add-one at (call .ensures))
 
 tree-corners-mul-close-asked : (t : ℕ) → tree-corners-lts.Need-mul-close-asked (tree-claims t) (tree-corners-at t) tree-corners.Post
 tree-corners-mul-close-asked t c =
-    let start = c .before .before .before .before .before .before .before .before .before .before .before .before .before in
+    let start = c .before .before .before .before .before .before .before .before .before .before .before .before .before .before .before .before in
     let a = start .args in
     omega (arith, start .pre .1 .0 .0 .names)
 
 tree-corners-shared-slice-read-close-asked : (t : ℕ) → tree-corners-lts.Need-shared-slice-read-close-asked (tree-claims t) (tree-corners-at t) tree-corners.Post
 tree-corners-shared-slice-read-close-asked t c =
-    let start = c .before .before .before .before .before .before .before .before .before .before .before .before .before .before in
+    let start = c .before .before .before .before .before .before .before .before .before .before .before .before .before .before .before .before .before in
     let a = start .args in
     omega (arith, start .pre .1 .0 .0 .names)
 
 tree-corners-add-close-asked : (t : ℕ) → tree-corners-lts.Need-add-close-asked (tree-claims t) (tree-corners-at t) tree-corners.Post
 tree-corners-add-close-asked t c =
-    let start = c .before .before .before .before .before .before .before .before .before .before .before .before .before .before .before .before in
+    let start = c .before .before .before .before .before .before .before .before .before .before .before .before .before .before .before .before .before .before .before in
     let a = start .args in
     omega (arith, level-room (a .shape .now) (a .labels .now) (a .depths .now) (a .names .now) (start .pre .1 .0 .0) (a .asked .now) (a .room .now) (a .base) (a .q) (a .first) (start .pre .1 .1 .0 .0) (start .pre .1 .0 .1))
 
 tree-corners-close-asked-requires : (t : ℕ) → tree-corners-lts.Need-close-asked-requires (tree-claims t) (tree-corners-at t) tree-corners.Post
 tree-corners-close-asked-requires t c κs =
-    let ext = c .before .before .before .before .before .before .before .before in
+    let ext = c .before .before .before .before .before .before .before .before .before .before .before in
     let els = ext .before .before .before in
     let start = els .before .before .before .before .before in
     let a = start .args in
@@ -345,13 +381,13 @@ tree-corners-close-asked-requires t c κs =
 
 tree-corners-add-first-level : (t : ℕ) → tree-corners-lts.Need-add-first-level (tree-claims t) (tree-corners-at t) tree-corners.Post
 tree-corners-add-first-level t c =
-    let start = c .before .before .before .before .before .before .before .before .before .before .before .before .before .before .before .before .before .before .before in
+    let start = c .before .before .before .before .before .before .before .before .before .before .before .before .before .before .before .before .before .before .before .before .before .before in
     let a = start .args in
     omega (arith, level-room (a .shape .now) (a .labels .now) (a .depths .now) (a .names .now) (start .pre .1 .0 .0) (a .asked .now) (a .room .now) (a .base) (a .q) (a .first) (start .pre .1 .1 .0 .0) (start .pre .1 .0 .1))
 
 tree-corners-first-level-requires : (t : ℕ) → tree-corners-lts.Need-first-level-requires (tree-claims t) (tree-corners-at t) tree-corners.Post
 tree-corners-first-level-requires t c κs =
-    let ext = c .before .before .before .before .before .before .before .before .before .before .before in
+    let ext = c .before .before .before .before .before .before .before .before .before .before .before .before .before .before in
     let els = ext .before .before .before in
     let start = els .before .before .before .before .before in
     let a = start .args in
@@ -371,13 +407,13 @@ tree-corners-first-level-requires t c κs =
 
 tree-corners-cast-write-log : (t : ℕ) → tree-corners-lts.Need-cast-write-log (tree-claims t) (tree-corners-at t) tree-corners.Post
 tree-corners-cast-write-log t c =
-    let start = c .before .before .before .before .before .before .before .before .before .before .before .before .before .before .before .before .before .before .before .before .before in
+    let start = c .before .before .before .before .before .before .before .before .before .before .before .before .before .before .before .before .before .before .before .before .before .before .before .before in
     let a = start .args in
     omega (arith, c .before .first-level .ensures .most, start .pre .1 .0 .2 .low)
 
 tree-corners-write-log-requires : (t : ℕ) → tree-corners-lts.Need-write-log-requires (tree-claims t) (tree-corners-at t) tree-corners.Post
 tree-corners-write-log-requires t c κs =
-    let ext = c .before .before .before .before .before .before .before .before .before .before .before .before .before in
+    let ext = c .before .before .before .before .before .before .before .before .before .before .before .before .before .before .before .before in
     let els = ext .before .before .before in
     let start = els .before .before .before .before .before in
     let a = start .args in
@@ -397,19 +433,19 @@ tree-corners-is-found-requires t c κs = search needs
 
 tree-corners-add-result : (t : ℕ) → tree-corners-lts.Need-add-result (tree-claims t) (tree-corners-at t) tree-corners.Post
 tree-corners-add-result t c =
-    let start = c .before .before .before .before .before .before .before .before .before .before .before .before .before .before .before .before .before .before .before .before .before .before .before .before in
+    let start = c .before .before .before .before .before .before .before .before .before .before .before .before .before .before .before .before .before .before .before .before .before .before .before .before .before .before .before in
     let a = start .args in
     omega (arith, start .pre .1 .0 .1, start .pre .1 .0 .0 .few)
 
 tree-corners-add-result-2 : (t : ℕ) → tree-corners-lts.Need-add-result-2 (tree-claims t) (tree-corners-at t) tree-corners.Post
 tree-corners-add-result-2 t c =
-    let start = c .before .before .before .before .before .before .before .before .before .before .before .before .before .before .before .before .before .before .before .before .before .before .before .before in
+    let start = c .before .before .before .before .before .before .before .before .before .before .before .before .before .before .before .before .before .before .before .before .before .before .before .before .before .before .before in
     let a = start .args in
     omega (arith, start .pre .1 .0 .1, start .pre .1 .0 .0 .few)
 
-tree-corners-returns-3 : (t : ℕ) → tree-corners-lts.Need-returns-3 (tree-claims t) (tree-corners-at t) tree-corners.Post
-tree-corners-returns-3 t c =
-    let ext = c .before .before .before .before .before .before .before .before .before .before .before .before .before .before .before .before in
+tree-corners-returns-4 : (t : ℕ) → tree-corners-lts.Need-returns-4 (tree-claims t) (tree-corners-at t) tree-corners.Post
+tree-corners-returns-4 t c =
+    let ext = c .before .before .before .before .before .before .before .before .before .before .before .before .before .before .before .before .before .before .before in
     let els = ext .before .before .before in
     let start = els .before .before .before .before .before in
     let a = start .args in
@@ -426,12 +462,12 @@ tree-corners-returns-3 t c =
     let w = c .before .before .before .before .before .before .before .close-asked .ensures in
     let held = c .before .before .before .before .first-level in
     let note = c .before .before .write-log in
-    let e = c .before .is-found .ensures .0 (c .if3 .taken) in
+    let e = c .before .is-found .ensures .0 (c .if4 .taken) in
     tree-found (a .shape .now) (a .labels .now) (a .depths .now) (a .names .now) (start .pre .1 .0 .0) (a .asked .now) (a .room .now) (a .log .now) (a .base) (a .q) (a .k) (a .first) (start .pre .1 .1 .0 .0) (start .pre .1 .0 .1) (start .pre .1 .0 .2) (start .pre .1 .1 .0 .1) (start .pre .1 .1 .1) m us z x vs rs₁ ms₁ (p .1) rs₂ w (held .result) (held .ensures) (note .last .0) (note .ensures) (e .0) (e .1) _ (omega arith)
 
 tree-corners-join-asked-requires : (t : ℕ) → tree-corners-lts.Need-join-asked-requires (tree-claims t) (tree-corners-at t) tree-corners.Post
 tree-corners-join-asked-requires t c κs =
-    let ext = c .before .before .before .before .before .before .before .before .before .before .before .before .before .before .before .before .before .before in
+    let ext = c .before .before .before .before .before .before .before .before .before .before .before .before .before .before .before .before .before .before .before .before .before in
     let els = ext .before .before .before in
     let start = els .before .before .before .before .before in
     let a = start .args in
@@ -448,9 +484,9 @@ tree-corners-join-asked-requires t c κs =
     let w = c .before .before .before .before .before .before .before .before .before .close-asked .ensures in
     (start .pre .1 .0 .0 .shape, ((x .least, z-room (a .shape .now) (a .labels .now) (a .depths .now) (a .names .now) (start .pre .1 .0 .0) (a .asked .now) (a .room .now) (a .base) (a .q) (a .first) (start .pre .1 .1 .0 .0) (start .pre .1 .0 .1) (start .pre .1 .1 .1) m us z x, w .size ∙ p .1 .ends .words), tree-joins (a .shape .now) (a .labels .now) (a .depths .now) (a .names .now) (start .pre .1 .0 .0) (a .asked .now) (a .room .now) (a .base) (a .q) (a .first) (start .pre .1 .1 .0 .0) (start .pre .1 .0 .1) (start .pre .1 .1 .1) m us z x vs rs₁ (p .1 .ends) rs₂ w))
 
-tree-corners-returns-4 : (t : ℕ) → tree-corners-lts.Need-returns-4 (tree-claims t) (tree-corners-at t) tree-corners.Post
-tree-corners-returns-4 t c =
-    let ext = c .before .before .before .before .before .before .before .before .before .before .before .before .before .before .before .before .before .before .before in
+tree-corners-returns-5 : (t : ℕ) → tree-corners-lts.Need-returns-5 (tree-claims t) (tree-corners-at t) tree-corners.Post
+tree-corners-returns-5 t c =
+    let ext = c .before .before .before .before .before .before .before .before .before .before .before .before .before .before .before .before .before .before .before .before .before .before in
     let els = ext .before .before .before in
     let start = els .before .before .before .before .before in
     let a = start .args in
@@ -468,7 +504,7 @@ tree-corners-returns-4 t c =
     let held = c .before .before .before .before .before .before .before .first-level in
     let note = c .before .before .before .before .before .write-log in
     let test = c .before .before .before .before .is-found in
-    tree-through (a .shape .now) (a .labels .now) (a .depths .now) (a .names .now) (start .pre .1 .0 .0) (a .asked .now) (a .room .now) (a .log .now) (a .base) (a .q) (a .k) (a .first) (start .pre .1 .1 .0 .0) (start .pre .1 .0 .1) (start .pre .1 .0 .2) (start .pre .1 .1 .0 .1) (start .pre .1 .1 .1) m us z x vs rs₁ ms₁ (p .1) rs₂ w (held .result) (held .ensures) (note .last .0) (note .ensures) (λ e o. true≢false (sym (test .ensures .1 (e, o)) ∙ c .before .before .before .if3 .left)) (call .result) (p .0) (c .join-asked .last .1 .1 .1 .0) (c .join-asked .ensures)
+    tree-through (a .shape .now) (a .labels .now) (a .depths .now) (a .names .now) (start .pre .1 .0 .0) (a .asked .now) (a .room .now) (a .log .now) (a .base) (a .q) (a .k) (a .first) (start .pre .1 .1 .0 .0) (start .pre .1 .0 .1) (start .pre .1 .0 .2) (start .pre .1 .1 .0 .1) (start .pre .1 .1 .1) m us z x vs rs₁ ms₁ (p .1) rs₂ w (held .result) (held .ensures) (note .last .0) (note .ensures) (λ e o. true≢false (sym (test .ensures .1 (e, o)) ∙ c .before .before .before .if4 .left)) (call .result) (p .0) (c .join-asked .last .1 .1 .1 .0) (c .join-asked .ensures)
 
 pub +forest-corners+tree-corners-spec : {M : Type 1} → statement M
 +forest-corners+tree-corners-spec =
@@ -505,10 +541,13 @@ pub +forest-corners+tree-corners-spec : {M : Type 1} → statement M
     (tree-corners-join-leaf-requires t)
     (tree-corners-returns t)
     (tree-corners-extend-requires t)
+    (tree-corners-idle-end-requires t)
+    (tree-corners-write-none-requires-2 t)
+    (tree-corners-returns-2 t)
     (tree-corners-add-forest-corners t)
     (tree-corners-add-forest-corners-2 t)
     (tree-corners-forest-corners-requires t)
-    (tree-corners-returns-2 t)
+    (tree-corners-returns-3 t)
     (tree-corners-mul-close-asked t)
     (tree-corners-shared-slice-read-close-asked t)
     (tree-corners-add-close-asked t)
@@ -520,6 +559,6 @@ pub +forest-corners+tree-corners-spec : {M : Type 1} → statement M
     (tree-corners-is-found-requires t)
     (tree-corners-add-result t)
     (tree-corners-add-result-2 t)
-    (tree-corners-returns-3 t)
-    (tree-corners-join-asked-requires t)
     (tree-corners-returns-4 t)
+    (tree-corners-join-asked-requires t)
+    (tree-corners-returns-5 t)

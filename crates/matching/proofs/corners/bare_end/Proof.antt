@@ -5,12 +5,14 @@ use Prim.Native.Nat.{_-_}
 use native.Mathlib.Numerals.{add-one}
 use borrow.Author.Tests.{not-false}
 use lib.ListN.{length}
-use Rattle.matching.proofs.Bare.{Walk, walk-none, walk-end, walk-on, walk-out}
+use Rattle.rows.specs.Rows.{at}
+use Rattle.matching.specs.Shape.{Foreign}
+use Rattle.matching.proofs.Bare.{Walk, walk-none, walk-on, bare-end, bare-not}
 use Rattle.matching.proofs.corners.bare_end.Statement.{statement}
 use Rattle.matching.proofs.corners.bare_end.Tie as tie
 
 abbrev Inv-loop : tie.InvT-loop
-Inv-loop depths names shape first end₀ end = Walk shape depths names first end
+Inv-loop depths names shape first end₀ end = Walk (λ y. Foreign shape (at names y)) depths first end
 
 abbrev μ-loop : tie.MeasureT-loop
 μ-loop depths names shape first end₀ end = length depths - end
@@ -19,7 +21,7 @@ add-end : tie.Need-add-end Inv-loop μ-loop
 add-end c = omega arith
 
 loop-holds : tie.Need-loop-holds Inv-loop μ-loop
-loop-holds c = rw add-one (walk-none _ _ _ _ (c .before .before .pre .0))
+loop-holds c = rw add-one (walk-none _ _ _ (c .before .before .pre .0))
 
 mul-if1 : tie.Need-mul-if1 Inv-loop μ-loop
 mul-if1 c = omega arith
@@ -34,7 +36,7 @@ shared-slice-read-if1-2 : tie.Need-shared-slice-read-if1-2 Inv-loop μ-loop
 shared-slice-read-if1-2 c = omega arith
 
 returns : tie.Need-returns Inv-loop μ-loop
-returns c = walk-end (c .before .before .before .before .loop .inv) (λ h. c .if1 .taken)
+returns c = bare-end (c .before .before .before .before .loop .inv) (λ h. c .if1 .taken)
 
 mul-is-foreign : tie.Need-mul-is-foreign Inv-loop μ-loop
 mul-is-foreign c = omega arith
@@ -49,7 +51,7 @@ returns-2 : tie.Need-returns-2 Inv-loop μ-loop
 returns-2 c =
     let other = c .before .before .before in
     let turn = other .before .before .before in
-    walk-out (turn .before .loop .inv) (turn .loop-test .taken) (other .if1 .left)
+    bare-not (turn .before .loop .inv) (turn .loop-test .taken) (other .if1 .left)
 
 add-end-2 : tie.Need-add-end-2 Inv-loop μ-loop
 add-end-2 c = omega arith
@@ -64,7 +66,7 @@ loop-again c =
     rw add-one (walk-on (turn .before .loop .inv) (turn .loop-test .taken) (other .if1 .left) (c .before .is-foreign .ensures .0 (not-false _ (c .if2 .left))))
 
 returns-3 : tie.Need-returns-3 Inv-loop μ-loop
-returns-3 c = walk-end (c .before .loop .inv) (λ h. absurd (omega arith))
+returns-3 c = bare-end (c .before .loop .inv) (λ h. absurd (omega arith))
 
 pub bare-end-spec : {M : Type 1} → statement M
 bare-end-spec =
