@@ -353,6 +353,18 @@ static void one_row(int height)
     for (int i = 0; i < 4000; i++) n = grow(td, tl, n, LISTING, (u16)(i % height), 1);
 }
 
+/* A chain of eight rows, in a listing that has it once, with chains of nine rows behind each that bear its labels in another order. */
+static void chain_among(void)
+{
+    static const u32 names[8] = {1, 3, 2, 3, 3, 2, 2, 4};
+    n = m = 0;
+    for (int d = 0; d < 8; d++) {
+        m = grow(rd, rl, m, RECIPE, (u16)d, names[d]), n = grow(td, tl, n, LISTING, (u16)d, names[d]);
+        for (int i = 0; d < 7 && i < 62; i++)
+            for (int k = 0; k < 9; k++) n = grow(td, tl, n, LISTING, (u16)(d + 1 + k), (u32)(1 + k % 4));
+    }
+}
+
 static void chance(u32 labels, int flat, int slope)
 {
     n = LISTING, m = RECIPE;
@@ -424,6 +436,7 @@ int main(void)
     comb_among(63, 1, 31, 2, 3), wrong |= measure("comb among foreign pairs");
     comb_among(63, 3, 60, 1, 2), wrong |= measure("large comb among others");
     comb_among(5, 1, 100, 10, 2), wrong |= measure("small comb among chains");
+    chain_among(), wrong |= measure("chain among mixed chains");
     one_row(14), wrong |= measure("one row among its kind");
     all_asked(), wrong |= measure("all chains asked");
     chance(1, 0, 0), wrong |= measure("one label, by chance");
