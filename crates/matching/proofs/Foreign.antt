@@ -1,4 +1,5 @@
--- Listing rows with labels of kinds that the recipe has not: no recipe row goes there, and the corners are as if they were struck. Assumes nothing.
+-- Listing rows with labels of kinds that the recipe has not: no recipe row goes there, and the corners are as if they were struck; and listing
+-- rows without the label of a chain's left-most leaf, which have no corner on that chain. Assumes nothing.
 use mathlib.Core.Path.{_≡_, refl, sym, ap, ap₂, _∙_}
 use mathlib.Core.Bool.{Bool}
 use mathlib.Core.List.{List}
@@ -84,7 +85,7 @@ module _ (ws rl td tl : List ℕ) (k : Ready ws rl td tl) where
       (ne-eqb (at rl (leftLeaf rd x)) (at tl t) (rw (s .0) (o (suc z) (omega arith) (omega arith)))))
       ∙ leafless x (suc (z + size f)) g (s .4) (λ y a b. o y (omega arith) (omega arith))
 
-  -- nor has a forest of such rows alone any
+  -- a forest whose labels are all of kinds that the recipe has not has none on any chain
   pub foreign-none : (z : ℕ) (f : Forest ℕ) → Stands td z f → ((y : ℕ) → z < y → y ≤ z + size f → Foreign ws (at tl y)) → (x : ℕ) → x ≤ length rd
       → cornerOf ws rl tl f x ≡ 0
   foreign-none z f s o zero h = refl

@@ -33,8 +33,8 @@ fn is_leaf_asked(
     false
 }
 
-// Where the tree of the row behind `first` rows, which has rows below it, is seen to be idle, its last row; else 0. Looks at 16 rows at
-// most, and at the chains only where the first two rows bear one label.
+// Where the tree of the row behind `first` rows, which has rows below it, is seen to be idle, its last row; else 0. A tree of over 16 rows is
+// not looked through, and the chains only where the first two rows bear one label.
 pub(crate) fn idle_end(
     depths: &[u16],
     names: &[u32],

@@ -93,7 +93,7 @@ module _ (ds : List ℕ) where
       go (yes h) = g v p h
       go (no h) = let e : v ≡ suc n = omega arith in rw e k
 
-  -- whether the first n rows are good, and no depth over `most` is at the next: then whether one row more is
+  -- `fine` says whether the first n rows are good, and `most` is the most that the next depth may be: what is said of one row more
   module _ (n most : ℕ) (fine : Bool) (m : (e : ℕ) → (e ≤ most) ↔ ((e ≤ mostAt ds (suc n)) × (e ≤ deepest))) (f : (fine ≡ true) ↔ GoodTo ds n) where
     pub bad-next : most < depth ds (suc n) → (false ≡ true) ↔ GoodTo ds (suc n)
     bad-next h = (λ e. absurd (false≢true e), λ g. let k = m (depth ds (suc n)) .1 (g (suc n) (omega arith) (omega arith)) in absurd (omega arith))
@@ -101,6 +101,7 @@ module _ (ds : List ℕ) where
     pub good-next : depth ds (suc n) ≤ most → (fine ≡ true) ↔ GoodTo ds (suc n)
     good-next h = (λ e. more n (f .0 e) (m (depth ds (suc n)) .0 h), λ g. f .1 (λ v p q. g v p (omega arith)))
 
+  -- well-formed: all rows are good
   pub fine-good : WellFormed ds ↔ GoodTo ds (length ds)
   fine-good = (good-of ds, of-good ds)
 
