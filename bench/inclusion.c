@@ -28,7 +28,8 @@ static u32 next(u32 below)
 }
 
 /* ---- the same algorithm: corners of the chains asked; then an image for each row, by its label, by the log of an earlier pass, or by a
-   pass that stops at the image and logs for each row it closes which rows of a path it includes ---- */
+   pass that stops at the image and logs for each row it closes which rows of a path it includes. Rows of a path that are first children
+   stand on one chain ---- */
 enum { PATH = 15, PATH_RECIPE = 228, PATH_DEPTH = 4 };
 static u16 parent[RECIPE + 1], right[RECIPE + 1], left[RECIPE + 1], leaf[RECIPE + 1], deep[RECIPE + 1];
 static u16 asked[RECIPE], place[RECIPE + 1], room[ROOM], mark[RECIPE + 1];
@@ -97,8 +98,21 @@ static int idle_end(int z, int first)
     return at;
 }
 
-/* A pass ends behind its rows, or at the first row to close that holds the first of the k rows of the path that are asked first: that
-   is the row's number, negative. */
+/* how far below the path's first row a tree includes it, by its corners on the path's k chains; at most 15, which is no place */
+static int first_place(int base, int k)
+{
+    for (int i = 0; i < k; i++) {
+        u16 w = room[base + i];
+        if (w && (i + 1 == k || deep[w] < deep[asked[i + 1]])) {
+            int levels = deep[w] - deep[asked[0]];
+            return levels < PATH ? levels : PATH;
+        }
+    }
+    return PATH;
+}
+
+/* A pass ends behind its rows, or at the first row to close that holds the first row of the path by the k chains that are asked first:
+   that is the row's number, negative. */
 static int forest_corners(int base, int q, int k, int first);
 
 static int tree_corners(int base, int q, int k, int first)
@@ -106,8 +120,7 @@ static int tree_corners(int base, int q, int k, int first)
     u32 name = tl[first];
     int bare = bare_end(first);
     if (bare) {
-        for (int t = first; k > 1 && t < bare; t++)
-            logged[t] = PATH;
+        if (k) logged[first] = PATH;
         for (int i = 0; i < q; i++) {
             u16 a = room[base + i], y = right[a], w = a ? y ? close_row(name, y, 0) : 0 : close_row(name, asked[i], 0);
             if (!a || (w && deep[w] == deep[a])) room[base + i] = w;
@@ -121,7 +134,7 @@ static int tree_corners(int base, int q, int k, int first)
     }
     int idle = idle_end(z, first);
     if (idle) {
-        for (int t = first; k > 1 && t < idle; t++)
+        for (int t = first; k && t < idle; t++)
             logged[t] = PATH;
         return idle;
     }
@@ -129,11 +142,9 @@ static int tree_corners(int base, int q, int k, int first)
     if (end < 0) return end;
     for (int i = 0; i < z; i++)
         room[base + q + i] = close_row(name, asked[i], room[base + q + i]);
-    int held = 0;
-    while (held < k && !(room[base + q + held] && deep[room[base + q + held]] == deep[asked[held]]))
-        held++;
-    if (k > 1) logged[first] = (unsigned char)held;
-    if (k && !held) return -(first + 1);
+    int at = first_place(base + q, k);
+    if (k) logged[first] = (unsigned char)at;
+    if (!at) return -(first + 1);
     for (int i = 0; i < q; i++) {
         u16 a = room[base + i], y = right[a];
         room[base + i] = join_row(a, room[base + q + i], y ? room[base + q + place[y]] : 0);
@@ -147,11 +158,7 @@ static int forest_corners(int base, int q, int k, int first)
         room[base + i] = 0;
     int at = first;
     while (at >= 0 && at < n && td[at] >= td[first])
-        if (is_foreign(tl[at])) {
-            if (k > 1) logged[at] = PATH;
-            at++;
-        } else
-            at = tree_corners(base, q, k, at);
+        at = is_foreign(tl[at]) ? at + 1 : tree_corners(base, q, k, at);
     return at;
 }
 
@@ -163,11 +170,11 @@ static u16 seek_label(u32 name, int at)
     return (u16)hit;
 }
 
-static u16 seek_logged(int most, int at)
+static u16 seek_logged(u32 name, int most, int at)
 {
     int hit = 0;
     for (; at < n && !(hit && td[at] <= td[hit - 1]); at++)
-        if (logged[at] <= most) hit = at + 1;
+        if (tl[at] == name && logged[at] <= most) hit = at + 1;
     return (u16)hit;
 }
 
@@ -187,11 +194,15 @@ static u16 widest_child(u16 u)
 
 static u16 seek_path(u16 v, int at)
 {
-    int k = 0, most = m <= PATH_RECIPE || deep[v] >= PATH_DEPTH ? PATH : 1;
-    for (u16 u = v; k < most && leaf[u] != u; u = widest_child(u)) {
-        asked[k] = u, place[u] = (u16)k;
-        if (k) mark[u] = (u16)k;
-        k++;
+    int k = 1, most = m <= PATH_RECIPE || deep[v] >= PATH_DEPTH ? PATH : 1;
+    asked[0] = v, place[v] = 0;
+    u16 u = widest_child(v);
+    for (u16 i = 1; i < PATH && leaf[u] != u; i++) {
+        if (leaf[u] != leaf[asked[k - 1]]) {
+            if (k == most) break;
+            asked[k] = u, place[u] = (u16)k++;
+        }
+        mark[u] = i, u = widest_child(u);
     }
     while (at >= 0 && at < n)
         at = forest_corners(0, k, k, at);
@@ -201,7 +212,7 @@ static u16 seek_path(u16 v, int at)
 static u16 seek(u16 v, int at)
 {
     if (leaf[v] == v) return seek_label(rl[v - 1], at);
-    return mark[v] ? seek_logged(mark[v], at) : seek_path(v, at);
+    return mark[v] ? seek_logged(rl[v - 1], mark[v], at) : seek_path(v, at);
 }
 
 static int last_row(int t)
@@ -239,6 +250,8 @@ __attribute__((noinline)) static u64 same(void)
     if (deep[w] || right[w]) return 2 * (65536 * width + parent[w]);
     for (u16 v = 1; v <= m; v++)
         mark[v] = 0;
+    for (u16 i = 1; pass < 0 && i < PATH && leaf[i + 1] != i + 1; i++)
+        mark[i + 1] = i;
     for (u16 v = 1; v <= m; v++) {
         int from = left[v] ? last_row(map_c[left[v] - 1]) : parent[v] ? map_c[parent[v] - 1] : 0;
         map_c[v - 1] = v == 1 && pass < 0 ? (u16)-pass : seek(v, from);

@@ -17,7 +17,7 @@ use Rattle.matching.specs.Family.{rightSibling, leftLeaf}
 use Rattle.matching.specs.CornerRow.{joinRow, corners}
 use Rattle.matching.specs.Shape.{Foreign}
 use Rattle.matching.specs.EarliestClose.{Holds}
-use Rattle.matching.specs.Path.{Within}
+use Rattle.matching.specs.Path.{Within, Told}
 use Rattle.matching.specs.Room.{recipeOf, sameLabel}
 use Rattle.matching.specs.Engine.{Ready, cornerOf}
 use Rattle.matching.proofs.CornerRow.{close-empty, join-empty, corner-unfit, corner-join}
@@ -37,12 +37,16 @@ module _ (ws rl td tl : List ℕ) (k : Ready ws rl td tl) where
   Fit = SameLabel rl tl
 
   -- such a row fits no recipe row, ..
-  foreign-fits : (t : ℕ) → Foreign ws (at tl t) → (v : ℕ) → Row rd v → Fit v t → ⊥
+  pub foreign-fits : (t : ℕ) → Foreign ws (at tl t) → (v : ℕ) → Row rd v → Fit v t → ⊥
   foreign-fits t o v r e = k .kinds v (r .0) (omega (arith, length-words ws 1 (length rl))) (rw e o)
 
   -- .. and so holds none
   pub foreign-holds : (t v : ℕ) → Foreign ws (at tl t) → Row rd v → Holds Fit rd td v t → ⊥
   foreign-holds t v o r (e, x, b) = foreign-fits t o v r (rw x at (b .fits v (omega arith, omega arith)))
+
+  -- .. and the log need not tell of it
+  pub foreign-tells : (asked : List ℕ) (l : ℕ) (ls : List ℕ) (t : ℕ) → Foreign ws (at tl t) → Told Fit rd td asked l ls t
+  foreign-tells asked l ls t o i v m n p = (λ h. absurd (foreign-holds t v o (p .row) h), λ f. absurd (foreign-fits t o v (p .row) f))
 
   -- the tree of a row, of which all rows below are such, includes no recipe row that has rows below it
   pub bare-without : (t v : ℕ) → ((y : ℕ) → t < y → y ≤ lastRow td t → Foreign ws (at tl y)) → Row rd v → 1 ≤ descendants rd v → Within Fit rd td v t → ⊥

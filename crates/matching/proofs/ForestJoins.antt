@@ -19,12 +19,12 @@ use Rattle.matching.specs.Shape.{Foreign}
 use Rattle.matching.specs.Asked.{chain}
 use Rattle.matching.specs.Placing.{HeldIn}
 use Rattle.matching.specs.Room.{Written, sameLabel, recipeOf}
-use Rattle.matching.specs.Path.{logBytes, Told, Put, Kept}
+use Rattle.matching.specs.Path.{logBytes, Told, Kept}
 use Rattle.matching.specs.Engine.{Ready, Begins, Ends, Sought, Found, Through, Passed, treeAt, cornerOf, withTree}
 use Rattle.matching.proofs.CornerRow.{corner-nothing, corner-join, corner-on}
-use Rattle.matching.proofs.Foreign.{foreign-holds, beside-same, foreign-struck}
+use Rattle.matching.proofs.Foreign.{foreign-holds, foreign-tells, beside-same, foreign-struck}
 use Rattle.matching.proofs.Passes.{none-more, found-more}
-use Rattle.matching.proofs.PathLaws.{path-same, told-same, kept-wide, kept-both, kept-none, kept-one}
+use Rattle.matching.proofs.PathLaws.{path-same, told-same, kept-wide, kept-both, kept-none}
 use Rattle.matching.proofs.Written.{room-levels}
 
 -- the first tree of a forest that stands behind z rows, and the trees beside it
@@ -159,7 +159,7 @@ module _ (ws rl td tl : List ℕ) (k : Ready ws rl td tl) (asked rs₀ ls : List
       kept-path i o = s .ends .keep i (omega (arith, g .few))
 
       pub so-sought : Sought ws rl us q l
-      so-sought = record { some = g .some; few = g .few; low = g .low; path = path-same (recipeOf ws rl) asked us l kept-path (g .path) }
+      so-sought = record { some = g .some; few = g .few; path = path-same (recipeOf ws rl) asked us l kept-path (g .path) }
 
       module _ (n : r < length td) (o : d ≤ depth td (suc r)) where
         row : Row td (suc r)
@@ -198,20 +198,15 @@ module _ (ws rl td tl : List ℕ) (k : Ready ws rl td tl) (asked rs₀ ls : List
         rest = omega (arith, s .rows, ap size (next .is), size-below td (k .listing .outline) (suc r) row)
 
         -- the next row has a label of a kind that the recipe has not: it is struck
-        module _ (f : Foreign ws (at tl (suc r))) (os : List ℕ) (p : Put ms r 15 l os) where
-          pub turn-struck : At us ss os (suc r)
+        module _ (f : Foreign ws (at tl (suc r))) where
+          pub turn-struck : At us ss ms (suc r)
           turn-struck = record { so = λ x. struck; found = λ x. absurd (omega (arith, k .few)) }
             where
-              told-struck : (y : ℕ) → first < y → y ≤ suc r → Dec (y ≤ r) → Told Fit (recipeOf ws rl) td asked l os y
-              told-struck y a c (yes i) = λ j u v. rw (p .others y (λ e. omega arith)) (s .told y a i j u v)
-              told-struck y a c (no i) = λ j u v.
-                  let e : y ≡ suc r = omega arith in
-                  rw (e, p .here (omega arith)) (
-                    λ h. absurd (foreign-holds ws rl td tl k (suc r) (chain asked j) f (g .path .rows j v) h),
-                    λ x. absurd (omega (arith, g .low)),
-                  )
+              told-struck : (y : ℕ) → first < y → y ≤ suc r → Dec (y ≤ r) → Told Fit (recipeOf ws rl) td asked l ms y
+              told-struck y a c (yes i) = s .told y a i
+              told-struck y a c (no i) = let e : y ≡ suc r = omega arith in foreign-tells ws rl td tl k asked l ms y (rw e f)
 
-              struck : So us ss os (suc r)
+              struck : So us ss ms (suc r)
               struck =
                   record {
                     start = omega (arith, s .start);
@@ -227,8 +222,7 @@ module _ (ws rl td tl : List ℕ) (k : Ready ws rl td tl) (asked rs₀ ls : List
                         ∙ s .whole x r₁;
                     ends = s .ends;
                     told = λ y a c. told-struck y a c (decLe y r);
-                    kept = kept-both ls (suc first) (suc r) ms os (kept-wide ls (suc first) r (suc first) (suc r) ms (omega arith) (omega arith) (s .kept))
-                        (kept-wide ms (suc r) (suc r) (suc first) (suc r) os (omega (arith, s .start)) (omega arith) (kept-one ms r 15 l os (suc r) (omega arith) p));
+                    kept = kept-wide ls (suc first) r (suc first) (suc r) ms (omega arith) (omega arith) (s .kept);
                   }
 
         -- the next tree joins, or the row sought is found in it

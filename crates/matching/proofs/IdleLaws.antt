@@ -11,7 +11,7 @@ use Rattle.rows.specs.Forest.{size, below}
 use Rattle.rows.specs.Embedding.{SameLabel}
 use Rattle.rows.proofs.Windows.{size-below}
 use Rattle.matching.specs.Family.{rightSibling}
-use Rattle.matching.specs.CornerRow.{joinRow, OnChain}
+use Rattle.matching.specs.CornerRow.{Chained, joinRow, OnChain}
 use Rattle.matching.specs.Shape.{word}
 use Rattle.matching.specs.Asked.{chain, noted, Asked, Extends}
 use Rattle.matching.specs.Path.{Within}
@@ -22,7 +22,7 @@ use Rattle.matching.proofs.Bare.{Walk, walk-end}
 use Rattle.matching.proofs.CornerRow.{join-empty, join-kept}
 use Rattle.matching.proofs.Foreign.{leafless}
 use Rattle.matching.proofs.Held.{stands-tree, held-tree}
-use Rattle.matching.proofs.Passes.{level-lies}
+use Rattle.matching.proofs.Passes.{chain-low}
 use Rattle.matching.proofs.TreeJoins.{right-word}
 
 -- nothing joins
@@ -64,12 +64,10 @@ module _ (ws rl td tl : List ℕ) (k : Ready ws rl td tl) where
         leafless ws rl td tl k (suc j) first (treeAt td first) (stands-tree td (k .listing .outline) first h)
         (λ y a c d. none y a (omega arith) (i, l, ap (at rl) (ap (word 2 ws) e ∙ k .shape .leaves (suc j) (omega (arith, chains .rows i l))) ∙ d))
 
-    -- so it includes none of them, ..
-    pub idle-without : (i : ℕ) → i < z → Within Fit rd td (chain us i) (suc first) → ⊥
-    idle-without i l w =
-        let r : Row rd (chain us i) = chains .rows i l in
-        let o = level-lies ws rl td tl k (chain us i) r (treeAt td first) 0 (sym (tree-none i l (chain us i) refl)) .1 (held-tree Fit rd td (k .outline) (k .listing .outline) (chain us i) r (suc first) row .0 w) in
-        omega (arith, o .0)
+    -- so it includes no row that stands on one of them, ..
+    pub idle-without : (i v : ℕ) → i < z → Row rd v → Chained rd (chain us i) v → Within Fit rd td v (suc first) → ⊥
+    idle-without i v l r c w =
+        let o = chain-low ws rl td tl k (chain us i) (chains .rows i l) first h 0 (sym (tree-none i l (chain us i) refl)) v r c w in omega (arith, o .0)
 
     -- .. nor is there one on the chain after a corner kept
     after-none : (i : ℕ) → i < q → cornerOf ws rl tl (treeAt td first) (rightSibling rd (getD rs (base + i) 0)) ≡ 0

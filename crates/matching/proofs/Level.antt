@@ -178,10 +178,11 @@ module _ (ds : List ℕ) (k : Outline ds) where
     pub row : Row ds (x + v)
     pub deep : depth ds (x + v) ≡ depth ds x + v
     pub here : spine v (fromRow ds x) ≡ fromRow ds (x + v)
+    pub leaf : leftLeaf ds (x + v) ≡ leftLeaf ds x
 
   pub level-of : (v x : ℕ) → Row ds x → v < levels (fromRow ds x) → Level x v
   level-of zero x r h =
-      let e : x + 0 ≡ x = omega arith in record { row = rw e r; deep = rw e (omega arith); here = ap (fromRow ds) (sym e) }
+      let e : x + 0 ≡ x = omega arith in record { row = rw e r; deep = rw e (omega arith); here = ap (fromRow ds) (sym e); leaf = ap (leftLeaf ds) e }
   level-of (suc v) x r h = go (kids-of x r) (level-of v (suc x)) (rw (from-step ds x r) at h)
     where
       go : Kids ds x → (Row ds (suc x) → v < levels (fromRow ds (suc x)) → Level (suc x) v) → suc v < suc (levels (below ds x)) → Level x (suc v)
@@ -193,6 +194,7 @@ module _ (ds : List ℕ) (k : Outline ds) where
             row = rw e at (l .row);
             deep = omega (arith, rw e at (l .deep), d);
             here = rw (from-step ds x r, n) (l .here ∙ ap (fromRow ds) e);
+            leaf = ap (leftLeaf ds) (sym e) ∙ l .leaf ∙ sym s;
           }
 
   -- down the left-most path each row is the first child of the row before it

@@ -6,6 +6,7 @@ pub mod Asking
 pub mod Bare
 pub mod Best
 pub mod Bits
+pub mod Chains
 pub mod CornerLaws
 pub mod CornerRow
 pub mod CornerWords

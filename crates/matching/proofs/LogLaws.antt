@@ -46,7 +46,7 @@ module _ (ls ms : List ℕ) (i : ℕ) (other : (u : ℕ) → (u ≡ suc i → �
 
 module _ (ls : List ℕ) (n : length ls ≡ logBytes) (place k : ℕ) (low : place < 16) where
   -- nothing is written, ..
-  pub put-none : (first : ℕ) → k < 2 → Put ls first place k ls
+  pub put-none : (first : ℕ) → k ≡ 0 → Put ls first place k ls
   put-none first h = record { size = n; here = λ o. absurd (omega arith); others = λ y o. refl }
 
   -- .. or a write is for one of the first rows, ..
@@ -103,6 +103,6 @@ blank-one ls first r k ms os h b p =
           (kept-wide ms (suc r) (suc r) (suc first) (suc r) os (omega arith) (omega arith) (kept-one ms r 15 k os (suc r) (omega arith) p));
     }
   where
-    go : 2 ≤ k → (y : ℕ) → first < y → Dec (y ≡ suc r) → y ≤ suc r → logged os y ≡ 15
+    go : 1 ≤ k → (y : ℕ) → first < y → Dec (y ≡ suc r) → y ≤ suc r → logged os y ≡ 15
     go o y i (yes e) j = rw e (p .here o)
     go o y i (no n) j = p .others y n ∙ b .none o y i (omega arith)

@@ -3,7 +3,7 @@ use mathlib.Core.Path.{_≡_, refl, sym, ap, _∙_}
 use mathlib.Core.List.{List}
 use Prim.Native.Nat.{ℕ, zero, suc, _≤_, _<_}
 use native.Mathlib.Omega.{arith}
-use native.Mathlib.Decide.{decLe, ℕ-discrete}
+use native.Mathlib.Decide.{decLe}
 use lib.ListN.{length, set}
 use lib.Seq.{getD-set-same}
 use Rattle.rows.specs.Rows.{at, Outline, lastRow, closing, Ancestor, LeftOf}
@@ -11,13 +11,13 @@ use Rattle.rows.proofs.Order.{Compared, less, same, more, compared, Later, in-t
 use Rattle.matching.specs.Family.{parent}
 use Rattle.matching.specs.EarliestClose.{Holds}
 use Rattle.matching.specs.Placing.{Placed, lowest, highest, HeldIn, Closed, FirstIn}
-use Rattle.matching.specs.Asked.{chain, noted}
-use Rattle.matching.specs.Path.{logged, Path, PathAsked, Within, Tells, Told, Logged, Marks, Marked}
+use Rattle.matching.specs.Asked.{chain}
+use Rattle.matching.specs.Path.{logged, Path, PathAsked, Within, Tells, Told, Logged, Slot, stays, marked, Marks, Marked}
 use Rattle.matching.specs.Images.{Cleared}
 use Rattle.matching.proofs.Family.{ParentView, root, child, parent-view}
 use Rattle.matching.proofs.Sides.{above-above}
 use Rattle.matching.proofs.FirstIn.{narrow, widen}
-use Rattle.matching.proofs.PathLaws.{above-child}
+use Rattle.matching.proofs.PathLaws.{on-below}
 use Rattle.matching.proofs.Placing.{at-other, earliest-same}
 use Rattle.matching.proofs.Keeps.{keeps-next}
 
@@ -25,23 +25,27 @@ module _ (Fit : ℕ → ℕ → Type 0) (rd td : List ℕ) (kr : Outline rd) (kt
   -- the log tells of c for all rows of a window that has its trees whole: the first to close of those that it names is the first to hold c
   module _ (from hi c i : ℕ) (ls : List ℕ) (fits : hi ≤ length td) (whole : Closed td (suc from) hi)
       (told : (t : ℕ) → from < t → t ≤ hi → Tells Fit rd td ls t i c) (held : HeldIn Fit rd td c (suc from) hi) where
-    told-at : (t : ℕ) → suc from ≤ t → t ≤ hi → Holds Fit rd td c t → logged ls t ≤ i
-    told-at t a b h = (told t a b) .0 h
+    -- the log names a row if it fits c and has at most c's place there
+    abbrev Names : ℕ → Type 0
+    Names y = Fit c y × (logged ls y ≤ i)
 
-    pub told-some : (y : ℕ) × (suc from ≤ y) × (y ≤ length td) × (logged ls y ≤ i)
-    told-some = let (y, a, b, h) = held in (y, a, omega arith, told-at y a b h)
+    told-at : (t : ℕ) → suc from ≤ t → t ≤ hi → Holds Fit rd td c t → Names t
+    told-at t a b h = (rw (h .1) at (h .2 .fits c (omega arith, omega arith)), (told t a b) .0 h)
 
-    pub told-first : (t : ℕ) → FirstIn td (λ y. logged ls y ≤ i) (suc from) (length td) t → FirstIn td (Holds Fit rd td c) (suc from) (length td) t
+    pub told-some : (y : ℕ) × (suc from ≤ y) × (y ≤ length td) × Fit c y × (logged ls y ≤ i)
+    told-some = let (y, a, b, h) = held in let n = told-at y a b h in (y, a, omega arith, n .0, n .1)
+
+    pub told-first : (t : ℕ) → FirstIn td Names (suc from) (length td) t → FirstIn td (Holds Fit rd td c) (suc from) (length td) t
     told-first t f =
         let (y, a, b, h) = held in
-        let g = narrow td kt (λ y. logged ls y ≤ i) (suc from) hi (length td) t (omega arith) fits (omega arith) whole y a b (told-at y a b h) f in
-        go g ((told t (g .low) (g .high)) .1 (g .holds))
+        let g = narrow td kt Names (suc from) hi (length td) t (omega arith) fits (omega arith) whole y a b (told-at y a b h) f in
+        go g ((told t (g .low) (g .high)) .1 (g .holds .0) (g .holds .1))
       where
         alone : (z : ℕ) → suc from ≤ t → t ≤ z → z ≤ lastRow td t → z ≤ hi → closing td t ≤ closing td z → Dec (z ≤ t) → z ≡ t
         alone z l a b h c (yes o) = omega arith
         alone z l a b h c (no o) = absurd (omega (arith, (window td kt t z (omega arith) (omega arith)) .1 (omega arith)))
 
-        go : FirstIn td (λ y. logged ls y ≤ i) (suc from) hi t → Within Fit rd td c t → FirstIn td (Holds Fit rd td c) (suc from) (length td) t
+        go : FirstIn td Names (suc from) hi t → Within Fit rd td c t → FirstIn td (Holds Fit rd td c) (suc from) (length td) t
         go g (z, a, b, h) =
             let w = whole t (g .low) (g .high) in
             let l = g .low in
@@ -82,25 +86,16 @@ module _ (Fit : ℕ → ℕ → Type 0) (rd td : List ℕ) (kr : Outline rd) (kt
       before : (u : ℕ) → u ≤ n → at (set m n t) u ≡ at m u
       before u o = other u (λ e. omega arith)
 
+  -- the rows of a path behind its first are below it, so their marks disturb no image
   module _ (asked : List ℕ) (n k : ℕ) (p : Path rd asked k) (top : chain asked 0 ≡ suc n) where
-    -- the rows of a path are below its first
-    path-below : (i : ℕ) → suc i < k → Ancestor rd (suc n) (chain asked (suc i))
-    path-below zero o = above-child rd kr (suc n) (chain asked 1) (p .rows 1 o) (omega arith) (p .down 0 o ∙ top)
-    path-below (suc i) o =
-        let h : suc i < k = omega arith in
-        let a = path-below i h in
-        let b = above-child rd kr (chain asked (suc i)) (chain asked (suc (suc i))) (p .rows (suc (suc i)) o) (p .rows (suc i) h .0) (p .down (suc i) o) in
-        omega arith
-
-    -- so its marks disturb no image
-    pub marks-images : (m m′ : List ℕ) → Marks rd asked k m m′ → (u : ℕ) → u ≤ suc n → at m′ u ≡ at m u
-    marks-images m m′ h u o = h .others u off
+    pub marks-images : (m m′ : List ℕ) → Marks rd asked k 15 m m′ → (u : ℕ) → u ≤ suc n → at m′ u ≡ at m u
+    marks-images m m′ h u o = go (h .slots u)
       where
-        off : (i : ℕ) → 1 ≤ i → i < k → chain asked i ≡ u → ⊥
-        off zero a b e = omega arith
-        off (suc i) a b e = omega (arith, path-below i b)
+        go : Slot rd asked k 15 m m′ u → at m′ u ≡ at m u
+        go (stays e) = e
+        go (marked i a b s e r) = absurd (omega (arith, on-below rd kr asked k p i u a s .1))
 
-    pub marks-placed : (m m′ : List ℕ) → Marks rd asked k m m′ → Placed Fit rd td m n → Placed Fit rd td m′ n
+    pub marks-placed : (m m′ : List ℕ) → Marks rd asked k 15 m m′ → Placed Fit rd td m n → Placed Fit rd td m′ n
     marks-placed m m′ h done u r o = earliest-same Fit rd td m m′ u (r .0) (λ w b. sym (marks-images m m′ h w (omega arith))) (done u r o)
 
   -- above a marked row the first row without an image has a mark too
@@ -119,13 +114,13 @@ module _ (Fit : ℕ → ℕ → Type 0) (rd td : List ℕ) (kr : Outline rd) (kt
           at-parent x y (same z) = rw (ap (at m) z) (k .up c i h a x)
           at-parent x y (more z) = absurd (omega arith)
 
-  -- a row without a mark gets its image, and the rows of a path below it get marks: ms tells of the path in the tree at the image, and behind
+  -- a row without a mark gets its image, and rows of a path below it get marks: ms tells of the path in the tree at the image, and behind
   -- that tree tells what ls told
-  module _ (ls ms m m′ asked : List ℕ) (n k t : ℕ) (old : Marked Fit rd td ls m n) (blank : at m (suc n) ≡ 0) (p : PathAsked rd asked k)
-      (top : chain asked 0 ≡ suc n) (room : length rd ≤ length m) (marks : Marks rd asked k m m′)
-      (tells : (y : ℕ) → t ≤ y → y ≤ lastRow td t → Told Fit rd td asked k ms y) (stays : (y : ℕ) → lastRow td t < y → logged ms y ≡ logged ls y) where
+  module _ (ls ms m m′ asked : List ℕ) (n k t : ℕ) (old : Marked Fit rd td ls m n) (blank : at m (suc n) ≡ 0) (some : 1 ≤ k) (p : Path rd asked k)
+      (top : chain asked 0 ≡ suc n) (room : length rd ≤ length m) (marks : Marks rd asked k 15 m m′)
+      (tells : (y : ℕ) → t ≤ y → y ≤ lastRow td t → Told Fit rd td asked k ms y) (stay : (y : ℕ) → lastRow td t < y → logged ms y ≡ logged ls y) where
     fits : suc n ≤ length rd
-    fits = omega (arith, p .path .rows 0 (p .some))
+    fits = omega (arith, p .rows 0 some)
 
     here : at (set m′ n t) (suc n) ≡ t
     here = getD-set-same m′ n t 0 (omega (arith, fits, marks .size))
@@ -134,32 +129,15 @@ module _ (Fit : ℕ → ℕ → Type 0) (rd td : List ℕ) (kr : Outline rd) (kt
     other = at-other m′ n t
 
     before : (u : ℕ) → u ≤ n → at (set m′ n t) u ≡ at m u
-    before u o = other u (λ e. omega arith) ∙ marks-images asked n k (p .path) top m m′ marks u (omega arith)
+    before u o = other u (λ e. omega arith) ∙ marks-images asked n k p top m m′ marks u (omega arith)
 
-    -- a row is on the path behind its first, and has its place as its mark, or has what it had
-    data Spot (c : ℕ) : Type 0 where
-      on : (i : ℕ) → suc i < k → chain asked (suc i) ≡ c → at m′ c ≡ suc i → Spot c
-      off : at m′ c ≡ at m c → Spot c
-
-    spot : (c : ℕ) → Spot c
-    spot c = go (noted asked c) refl (decLe (suc (noted asked c)) k) (ℕ-discrete (chain asked (noted asked c)) c)
-      where
-        miss : ((i : ℕ) → noted asked c ≡ i → 1 ≤ i → i < k → chain asked i ≡ c → ⊥) → Spot c
-        miss f = off (marks .others c (λ i a b e. f i (rw e at (p .chains .places i b)) a b e))
-
-        go : (i : ℕ) → noted asked c ≡ i → Dec (noted asked c < k) → Dec (chain asked (noted asked c) ≡ c) → Spot c
-        go zero z d e = miss (λ i q a b e. omega arith)
-        go (suc i) z (yes h) (yes e) =
-            let x : chain asked (suc i) ≡ c = rw z at e in on i (omega arith) x (rw x at (marks .marked (suc i) (omega arith) (omega arith)))
-        go (suc i) z (no h) e = miss (λ i q a b e. omega arith)
-        go (suc i) z (yes h) (no e) = miss (λ i q a b x. e (rw q x))
+    abbrev Spot : ℕ → Type 0
+    Spot c = Slot rd asked k 15 m m′ c
 
     up : (c : ℕ) → suc n < c → c ≤ length rd → 1 ≤ at m′ c → suc n < parent rd c → Spot c → Spot (parent rd c) → 1 ≤ at m′ (parent rd c)
-    up c o h a b (on zero j e q) s = absurd (omega (arith, ap (parent rd) e, p .path .down 0 j))
-    up c o h a b (on (suc i) j e q) s =
-        omega (arith, ap (λ (x : ℕ). at m′ (parent rd x)) e, ap (at m′) (p .path .down (suc i) j), marks .marked (suc i) (omega arith) (omega arith))
-    up c o h a b (off q) (on i j e r) = omega arith
-    up c o h a b (off q) (off r) = rw r (old .up c (omega arith) h (rw q at a) (omega arith))
+    up c o h a b (marked i x y z e r) s = r (omega arith)
+    up c o h a b (stays q) (marked i x y z e r) = omega arith
+    up c o h a b (stays q) (stays r) = rw r (old .up c (omega arith) h (rw q at a) (omega arith))
 
     abbrev TellsOf : ℕ → ℕ → Type 0
     TellsOf c v =
@@ -167,40 +145,40 @@ module _ (Fit : ℕ → ℕ → Type 0) (rd td : List ℕ) (kr : Outline rd) (kt
         → ((u : ℕ) → u ≤ suc n → LeftOf rd u c → lastRow td (at (set m′ n t) u) < y) → Tells Fit rd td ms y (at m′ c) c
 
     told : (c : ℕ) → suc n < c → c ≤ length rd → 1 ≤ at m′ c → Spot c → Later rd kr (suc n) c → (v : ℕ) × Ancestor rd v c × (v ≤ suc n) × TellsOf c v
-    told c o h a (on i j e q) d = (
+    told c o h a (marked i x w z e s) d = (
       suc n,
-      rw e at (path-below asked n k (p .path) top i j),
+      rw top at (on-below rd kr asked k p i c x z),
       omega arith,
-      λ y l r g. rw (q, ← e) ((tells y (rw here at l) (rw here at r)) (suc i) (omega arith) j),
+      λ y l r g. rw e ((tells y (rw here at l) (rw here at r)) i c x w z),
     )
-    told c o h a (off q) (in-tree b) = absurd (omega (arith, blank, marked-above ls m n old (suc c) c (omega arith) (omega arith) h (rw q at a) b))
-    told c o h a (off q) (past-tree b) =
+    told c o h a (stays q) (in-tree b) = absurd (omega (arith, blank, marked-above ls m n old (suc c) c (omega arith) (omega arith) h (rw q at a) b))
+    told c o h a (stays q) (past-tree b) =
         let (v, x, w, f) = old .told c (omega arith) h (rw q at a) in (
           v,
           x,
           omega arith,
           λ y l r g.
-              rw (q, stays y (rw here at (g (suc n) (omega arith) b)))
+              rw (q, stay y (rw here at (g (suc n) (omega arith) b)))
               (f y (rw (before v w) at l) (rw (before v w) at r) (λ u s z. rw (before u s) at (g u (omega arith) z))),
         )
 
-    marked-path : Marked Fit rd td ms (set m′ n t) (suc n)
+    pub marked-path : Marked Fit rd td ms (set m′ n t) (suc n)
     marked-path =
         record {
           up = λ c o h a b.
               rw (other (parent rd c) (λ e. omega arith))
-              (up c o h (rw (other c (λ e. omega arith)) at a) b (spot c) (spot (parent rd c)));
+              (up c o h (rw (other c (λ e. omega arith)) at a) b (marks .slots c) (marks .slots (parent rd c)));
           told = λ c o h a.
               rw (other c (λ e. omega arith))
-              (told c o h (rw (other c (λ e. omega arith)) at a) (spot c) (later rd kr (suc n) c (omega (arith, fits)) (omega arith) o));
+              (told c o h (rw (other c (λ e. omega arith)) at a) (marks .slots c) (later rd kr (suc n) c (omega (arith, fits)) (omega arith) o));
         }
 
   -- so it is where a search for the path came upon the image of its first row
   pub marked-pass : (ls ls′ m m′ asked us : List ℕ) (n k from t : ℕ) → Marked Fit rd td ls m n → at m (suc n) ≡ 0 → PathAsked rd asked k
-      → chain asked 0 ≡ suc n → length rd ≤ length m → Marks rd asked k m m′ → Logged Fit rd td asked k ls from t us ls′
+      → chain asked 0 ≡ suc n → length rd ≤ length m → Marks rd asked k 15 m m′ → Logged Fit rd td asked k ls from t us ls′
       → Marked Fit rd td ls′ (set m′ n t) (suc n)
   marked-pass ls ls′ m m′ asked us n k from t old blank p top room marks l =
-      marked-path ls ls′ m m′ asked n k t old blank p top room marks (l .told) (λ y h. l .kept .stays y (λ a b. omega arith))
+      marked-path ls ls′ m m′ asked n k t old blank (p .some) (p .path) top room marks (l .told) (λ y h. l .kept .stays y (λ a b. omega arith))
 
   -- the log tells of the whole window of the row after the placed ones, if that has a mark
   pub marked-window : (m : List ℕ) (n : ℕ) → Placed Fit rd td m n → (ls : List ℕ) → suc n ≤ length rd → Marked Fit rd td ls m n → 1 ≤ at m (suc n) → (t : ℕ)

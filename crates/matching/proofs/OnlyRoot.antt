@@ -1,6 +1,6 @@
 -- The pass over the whole listing: a recipe with one root is found where that root is. Assumes nothing.
 use mathlib.Core.Path.{_≡_, refl, sym, ap, _∙_}
-use mathlib.Core.List.{List}
+use mathlib.Core.List.{List, [], _∷_}
 use mathlib.Core.Logic.{_↔_}
 use Prim.Native.Nat.{ℕ, _+_, _-_, _≤_, _<_}
 use native.Mathlib.Omega.{arith}
@@ -17,7 +17,7 @@ use Rattle.matching.specs.Asked.{chain}
 use Rattle.matching.specs.EarliestClose.{Holds}
 use Rattle.matching.specs.Placing.{HeldIn, FirstIn}
 use Rattle.matching.specs.Shape.{word}
-use Rattle.matching.specs.Path.{logBytes}
+use Rattle.matching.specs.Path.{logBytes, Path}
 use Rattle.matching.specs.Room.{recipeOf, roomWords}
 use Rattle.matching.specs.Engine.{Ready, Begins, Sought, Passed, Known, cornerOf}
 use Rattle.matching.proofs.Alone.{askAlone, alone-chain, begins-alone, forest-top}
@@ -25,6 +25,7 @@ use Rattle.matching.proofs.Asking.{inner-row}
 use Rattle.matching.proofs.Held.{held-iff}
 use Rattle.matching.proofs.Level.{Next, next, last, next-of}
 use Rattle.matching.proofs.Passes.{level-lies}
+use Rattle.matching.proofs.PathLaws.{told-same}
 use Rattle.matching.proofs.TreeJoins.{corner-of-fits}
 
 -- row 1 has no right sibling: no other row is a root
@@ -52,6 +53,10 @@ only-corner ws rl td tl k one e t f =
     let d : depth rd w ≡ 0 = sym (k .shape .depths w o) ∙ l .1 ∙ k .shape .depths 1 one ∙ k .outline .first r in
     sym (only-row rd (k .outline) e w (l .0, o) d)
 
+-- nothing is known of row 1's image by 0
+pub known-none : {ws rl td tl ls : List ℕ} → Known ws rl td tl ls 0
+known-none = record { first = λ o. absurd (omega arith); path = λ o. absurd (omega arith); told = λ o. absurd (omega arith) }
+
 -- row 1 alone is asked, and l rows are sought: that row, where it is the only root and has rows below it, or none
 module _ {ws rl td tl : List ℕ} (k : Ready ws rl td tl) (one : 1 ≤ length (recipeOf ws rl)) (xs : List ℕ) (size-asked : length xs ≡ 513) {l : ℕ}
     (rows : (l ≤ 1) × ((1 ≤ l) ↔ ((word 1 ws 1 ≡ 0) × (word 2 ws 1 ≡ 1 → ⊥)))) where
@@ -73,18 +78,16 @@ module _ {ws rl td tl : List ℕ} (k : Ready ws rl td tl) (one : 1 ≤ length (r
   only : 1 ≤ l → rightSibling rd 1 ≡ 0
   only o = sym (k .shape .rights 1 one) ∙ rows .1 .0 o .0
 
-  pub first-sought : Sought ws rl asked 1 l
-  first-sought =
+  first-path : (cs : List ℕ) → chain cs 0 ≡ 1 → Path rd cs l
+  first-path cs c =
       record {
-        some = omega arith;
-        few = rows .0;
-        low = omega (arith, rows .0);
-        path = record {
-          rows = λ i h. let e : i ≡ 0 = omega (arith, rows .0) in rw (e, first) row;
-          inner = λ i h. let e : i ≡ 0 = omega (arith, rows .0) in rw (e, first) (inner (omega arith));
-          down = λ i h. absurd (omega (arith, rows .0));
-        };
+        rows = λ i h. let e : i ≡ 0 = omega (arith, rows .0) in rw (e, c) row;
+        inner = λ i h. let e : i ≡ 0 = omega (arith, rows .0) in rw (e, c) (inner (omega arith));
+        down = λ i h. absurd (omega (arith, rows .0));
       }
+
+  pub first-sought : Sought ws rl asked 1 l
+  first-sought = record { some = omega arith; few = rows .0; path = first-path asked first }
 
   pub first-begins : {rs : List ℕ} → length rs ≡ roomWords → (d : ℕ) → Begins ws rl asked rs 0 1 d
   first-begins n d = begins-alone xs 1 size-asked (omega arith) ws rl _ d (k .shape .few) row n
@@ -107,9 +110,19 @@ module _ {ws rl td tl : List ℕ} (k : Ready ws rl td tl) (one : 1 ≤ length (r
           (t .ends .chains .size, t .ends .words, t .kept .size),
         )
 
-    pub first-found : listingRows < r → (1 ≡ cornerOf ws rl tl (forest td) 1) × Known ws rl td tl (r - listingRows) × Sizes
+    pub first-found : listingRows < r → (1 ≡ cornerOf ws rl tl (forest td) 1) × Known ws rl td tl ms (r - listingRows) × Sizes
     first-found o =
         let g = p .found o in
         let last : 0 + size (forestAt td 0 (depth td 1)) ≡ length td = omega (arith, ap size all, size-forest td (k .listing .outline)) in
         let h = rw (first, last) at (g .found) in
-        (only-corner ws rl td tl k one (only (g .some)) _ h, λ i. h, (g .words .0 .size, g .words .1, g .logged .kept .size))
+        let e : l ≡ 1 = omega (arith, g .some, rows .0) in (
+          only-corner ws rl td tl k one (only (g .some)) _ h,
+          record {
+            first = λ i. h;
+            path = λ i. rw e at (first-path (1 ∷ []) refl);
+            told = λ i y a b.
+                rw e at
+                (told-same (SameLabel rl tl) rd td (1 ∷ []) asked l ms y (λ j n. let z : j ≡ 0 = omega (arith, rows .0) in rw z first) (g .logged .told y a b));
+          },
+          (g .words .0 .size, g .words .1, g .logged .kept .size),
+        )

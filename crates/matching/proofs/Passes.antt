@@ -14,12 +14,14 @@ use Rattle.rows.specs.Embedding.{SameLabel, LiesIn}
 use Rattle.rows.proofs.Depths.{last-fits}
 use Rattle.matching.specs.EarliestClose.{Holds}
 use Rattle.matching.specs.Placing.{HeldIn, FirstIn}
+use Rattle.matching.specs.CornerRow.{Chained}
 use Rattle.matching.specs.Shape.{word}
+use Rattle.matching.specs.Path.{Within}
 use Rattle.matching.specs.Room.{recipeOf, sameLabel}
 use Rattle.matching.specs.Engine.{Ready, treeAt, cornerOf}
 use Rattle.matching.proofs.FirstIn.{enter, here, widen}
 use Rattle.matching.proofs.Held.{held-root, held-tree}
-use Rattle.matching.proofs.TreeRow.{tree-row}
+use Rattle.matching.proofs.TreeRow.{row-deep, row-low, row-here, tree-row}
 use Rattle.matching.proofs.TreeJoins.{corner-of-fits}
 
 -- the test of the labels is right
@@ -64,12 +66,26 @@ module _ (ws rl td tl : List ℕ) (k : Ready ws rl td tl) (v : ℕ) (r : Row (re
     found-below t f = enter td (k .listing .outline) (Holds Fit rd td v) (suc first) last (omega arith) (omega arith) ends t f
 
     module _ (w : ℕ) (q : w ≡ cornerOf ws rl tl (treeAt td first) v) where
-      -- the tree's corner is on its level, and no row below the first one holds it: the first one does
-      pub found-here : (HeldIn Fit rd td v (suc (suc first)) last → ⊥) → OnLevel w → FirstIn td (Holds Fit rd td v) (suc first) last (suc first)
-      found-here none o =
-          here td (k .listing .outline) (Holds Fit rd td v) (suc first) last (omega arith) (omega arith) ends (λ y a b p. none (y, a, b, p))
-          (held-root Fit rd td v (suc first) last
-          ((held-tree Fit rd td (k .outline) (k .listing .outline) v r (suc first) row) .1 ((level-lies (treeAt td first) w q) .0 o)) none)
+      -- its corner on chain v is no higher than v, and no deeper than a row of that chain that the tree includes; it includes the one on the
+      -- corner's level
+      pub chain-deep : 1 ≤ w → depth rd v ≤ depth rd w
+      chain-deep o = rw q (row-deep Fit (sameLabel rl tl) (same-right rl tl) rd (k .outline) v r (treeAt td first) (rw q at o))
+
+      pub chain-low : (u : ℕ) → Row rd u → Chained rd v u → Within Fit rd td u (suc first) → (1 ≤ w) × (depth rd w ≤ depth rd u)
+      chain-low u s c i =
+          rw q (row-low Fit (sameLabel rl tl) (same-right rl tl) rd (k .outline) v r (treeAt td first) u c
+          (held-tree Fit rd td (k .outline) (k .listing .outline) u s (suc first) row .0 i))
+
+      pub chain-here : 1 ≤ w → (u : ℕ) × Row rd u × Chained rd v u × (depth rd u ≡ depth rd w) × Within Fit rd td u (suc first)
+      chain-here o =
+          let (u, s, c, d, i) = row-here Fit (sameLabel rl tl) (same-right rl tl) rd (k .outline) v r (treeAt td first) (rw q at o) in
+          (u, s, c, rw q d, held-tree Fit rd td (k .outline) (k .listing .outline) u s (suc first) row .1 i)
+
+    -- the tree includes it, and no row below the first one holds it: the first one does
+    pub found-here : Within Fit rd td v (suc first) → (HeldIn Fit rd td v (suc (suc first)) last → ⊥) → FirstIn td (Holds Fit rd td v) (suc first) last (suc first)
+    found-here i none =
+        here td (k .listing .outline) (Holds Fit rd td v) (suc first) last (omega arith) (omega arith) ends (λ y a b p. none (y, a, b, p))
+        (held-root Fit rd td v (suc first) last i none)
 
   -- of the rows behind `from` rows none of the first holds it, up to row `first`. Then none up to row `last`, ..
   module _ (from first last : ℕ) (low : from ≤ first) (none : HeldIn Fit rd td v (suc from) first → ⊥) where

@@ -1,7 +1,7 @@
 -- Placing one recipe row more. Assumes nothing.
 use mathlib.Core.Path.{_≡_, refl, sym, ap, subst, subst₂, _∙_}
 use mathlib.Core.Bool.{Bool, true, false}
-use mathlib.Core.List.{List}
+use mathlib.Core.List.{List, [], _∷_}
 use Prim.Native.Nat.{ℕ, zero, suc, _-_, _≤_, _<_}
 use native.Mathlib.Omega.{arith}
 use native.Mathlib.Decide.{decLe}
@@ -16,14 +16,14 @@ use Rattle.matching.specs.Placing.{Placed, barred, lowest, highest, Held
 use Rattle.matching.specs.Asked.{chain}
 use Rattle.matching.specs.Shape.{Shape}
 use Rattle.matching.specs.Linked.{Climbs}
-use Rattle.matching.specs.Path.{logBytes, logged, PathAsked, Tells, Logged, Marks, Marked}
+use Rattle.matching.specs.Path.{logBytes, logged, Path, PathAsked, Tells, Told, Logged, Marks, Marked}
 use Rattle.matching.specs.Images.{Cleared, Begun, Stage}
 use Rattle.matching.specs.Room.{roomWords}
 use Rattle.rows.proofs.Depths.{inside-deeper}
 use Rattle.rows.proofs.Order.{window}
 use Rattle.matching.proofs.Family.{parent-before, left-before, ParentView, root, child, parent-view}
 use Rattle.matching.proofs.FirstIn.{narrow}
-use Rattle.matching.proofs.Marks.{told-some, told-first, marked-none, marked-kept, marks-images, marks-placed, marked-pass, marked-window}
+use Rattle.matching.proofs.Marks.{told-some, told-first, marked-none, marked-kept, marks-images, marks-placed, marked-path, marked-pass, marked-window}
 use Rattle.matching.proofs.Placing.{behind-parent, highest-fits, window-closed, placed-next}
 use Rattle.matching.proofs.Offers.{held-next}
 
@@ -113,10 +113,10 @@ module _ (Fit : ℕ → ℕ → Type 0) (rd td : List ℕ) (kr : Outline rd) (kt
       told : (t : ℕ) → from < t → t ≤ hi → Tells Fit rd td ls t (at m (suc n)) (suc n)
       told t a b = marked-window Fit rd td kr kt m n placed ls more marked o t (omega (arith, low)) b
 
-      pub logged-some : (y : ℕ) × (suc from ≤ y) × (y ≤ length td) × (logged ls y ≤ at m (suc n))
+      pub logged-some : (y : ℕ) × (suc from ≤ y) × (y ≤ length td) × Fit (suc n) y × (logged ls y ≤ at m (suc n))
       logged-some = told-some Fit rd td kr kt from hi (suc n) (at m (suc n)) ls end whole told held
 
-      pub logged-first : (t : ℕ) → FirstIn td (λ y. logged ls y ≤ at m (suc n)) (suc from) (length td) t → FirstIn td (Holds Fit rd td (suc n)) (suc from) (length td) t
+      pub logged-first : (t : ℕ) → FirstIn td (λ y. Fit (suc n) y × (logged ls y ≤ at m (suc n))) (suc from) (length td) t → FirstIn td (Holds Fit rd td (suc n)) (suc from) (length td) t
       logged-first = told-first Fit rd td kr kt from hi (suc n) (at m (suc n)) ls end whole told held
 
   abbrev Words : List ℕ → List ℕ → List ℕ → Type 0
@@ -138,7 +138,7 @@ module _ (Fit : ℕ → ℕ → Type 0) (rd td : List ℕ) (kr : Outline rd) (kt
 
     -- .. or by one, which has left a log and marks
     pub stage-pass : at m (suc n) ≡ 0 → (asked : List ℕ) (k : ℕ) → PathAsked rd asked k → chain asked 0 ≡ suc n → (us ss os m′ : List ℕ) → length us ≡ 513 → length ss ≡ roomWords
-        → Logged Fit rd td asked k ls from t us os → Marks rd asked k m m′ → Stage Fit rd td m us ss os (set m′ n t) (suc n)
+        → Logged Fit rd td asked k ls from t us os → Marks rd asked k 15 m m′ → Stage Fit rd td m us ss os (set m′ n t) (suc n)
     stage-pass none asked k p top us ss os m′ lu ls′ g w =
         let same = marks-images Fit rd td kr kt asked n k (p .path) top m m′ w in
         record {
@@ -165,23 +165,29 @@ module _ (Fit : ℕ → ℕ → Type 0) (rd td : List ℕ) (kr : Outline rd) (kt
     stage-none =
         record { few = omega arith; placed = placed-none m₁; marked = marked-none Fit rd td kr kt m₀ m₁ ls c; size = c .size; rest = c .rest; words = w }
 
-    stage-known : (t : ℕ) → FirstIn td (Holds Fit rd td 1) 1 (length td) t → Stage Fit rd td m₀ xs rs ls (set m₁ 0 t) 1
-    stage-known t f =
-        record {
-          few = some;
-          placed = placed-one m₁ 0 0 (placed-none m₁) some (sym (barred-one rd td m₁)) t (slot (length m₁) (c .size)) f;
-          marked = marked-kept Fit rd td kr kt ls m₁ 0 (stage-none .marked) t;
-          size = length-set m₁ 0 t ∙ c .size;
-          rest = drop-set-lt (length rd) m₁ 0 t some ∙ c .rest;
-          words = w;
-        }
+    -- the log tells of the tree at row 1's image and of row 1's chain, and that chain has its marks
+    module _ (t : ℕ) (f : FirstIn td (Holds Fit rd td 1) 1 (length td) t) (p : Path rd (1 ∷ []) 1)
+        (told : (y : ℕ) → t ≤ y → y ≤ lastRow td t → Told Fit rd td (1 ∷ []) 1 ls y) (m₂ : List ℕ) (marks : Marks rd (1 ∷ []) 1 15 m₁ m₂) where
+      stage-known : Stage Fit rd td m₀ xs rs ls (set m₂ 0 t) 1
+      stage-known =
+          record {
+            few = some;
+            placed = placed-one m₂ 0 0 (placed-none m₂) some (sym (barred-one rd td m₂)) t (slot (length m₂) (marks .size ∙ c .size)) f;
+            marked = marked-path Fit rd td kr kt ls ls m₁ m₂ (1 ∷ []) 0 1 t (stage-none .marked) (c .none 1 some) (omega arith) p refl (omega (arith, c .size)) marks told (λ y h. refl);
+            size = length-set m₂ 0 t ∙ marks .size ∙ c .size;
+            rest = drop-set-lt (length rd) m₂ 0 t some ∙ marks .rest ∙ c .rest;
+            words = w;
+          }
 
-    pub stage-begun : (t n : ℕ) (m : List ℕ) → Begun t m₁ n m → (1 ≤ t → FirstIn td (Holds Fit rd td 1) 1 (length td) t) → Stage Fit rd td m₀ xs rs ls m n
-    stage-begun t n m b h = go (decLe 1 t)
+    pub stage-begun : (t n : ℕ) (m : List ℕ) → Begun rd t m₁ n m → (1 ≤ t → FirstIn td (Holds Fit rd td 1) 1 (length td) t) → (1 ≤ t → Path rd (1 ∷ []) 1)
+        → (1 ≤ t → (y : ℕ) → t ≤ y → y ≤ lastRow td t → Told Fit rd td (1 ∷ []) 1 ls y) → Stage Fit rd td m₀ xs rs ls m n
+    stage-begun t n m b h p told = go (decLe 1 t)
       where
         go : Dec (1 ≤ t) → Stage Fit rd td m₀ xs rs ls m n
-        go (no o) = let x = b .0 (omega arith) in subst₂ (λ (m : List ℕ) (n : ℕ). Stage Fit rd td m₀ xs rs ls m n) (sym (x .1)) (sym (x .0)) stage-none
-        go (yes o) = let x = b .1 o in subst₂ (λ (m : List ℕ) (n : ℕ). Stage Fit rd td m₀ xs rs ls m n) (sym (x .1)) (sym (x .0)) (stage-known t (h o))
+        go (no o) = let x = b .none (omega arith) in subst₂ (λ (m : List ℕ) (n : ℕ). Stage Fit rd td m₀ xs rs ls m n) (sym (x .1)) (sym (x .0)) stage-none
+        go (yes o) =
+            let (e, m′, x, y) = b .known o in
+            subst₂ (λ (m : List ℕ) (n : ℕ). Stage Fit rd td m₀ xs rs ls m n) (sym y) (sym e) (stage-known t (h o) (p o) (told o) m′ x)
 
   -- the same of row v, all rows before which are placed
   module _ (v n : ℕ) (next : v ≡ suc n) (r : Row rd v) (m xs rs ls : List ℕ) (from : ℕ) (s : Stage Fit rd td m xs rs ls m n) (room : length rd ≤ length m)
@@ -195,17 +201,17 @@ module _ (Fit : ℕ → ℕ → Type 0) (rd td : List ℕ) (kr : Outline rd) (kt
     pub row-held : HeldDeep Fit rd td v (suc from) (length td)
     row-held = rw next (held-behind m n from (s .placed) more begins)
 
-    pub row-logged : 1 ≤ at m v → (y : ℕ) × (suc from ≤ y) × (y ≤ length td) × (logged ls y ≤ at m v)
+    pub row-logged : 1 ≤ at m v → (y : ℕ) × (suc from ≤ y) × (y ≤ length td) × Fit v y × (logged ls y ≤ at m v)
     row-logged = rw next (logged-some m n from (s .placed) more begins ls (s .marked))
 
-    pub row-first : 1 ≤ at m v → (t : ℕ) → FirstIn td (λ y. logged ls y ≤ at m v) (suc from) (length td) t → FirstIn td (Holds Fit rd td v) (suc from) (length td) t
+    pub row-first : 1 ≤ at m v → (t : ℕ) → FirstIn td (λ y. Fit v y × (logged ls y ≤ at m v)) (suc from) (length td) t → FirstIn td (Holds Fit rd td v) (suc from) (length td) t
     row-first = rw next (logged-first m n from (s .placed) more begins ls (s .marked))
 
     pub row-one : (t : ℕ) → FirstIn td (Holds Fit rd td v) (suc from) (length td) t → (t ≤ length td) × Stage Fit rd td m xs rs ls (set m n t) v
     row-one = rw next (λ t f. (f .high, stage-one m xs rs ls n from s room more begins t f))
 
     pub row-pass : at m v ≡ 0 → (asked : List ℕ) (k : ℕ) → PathAsked rd asked k → chain asked 0 ≡ v → (t : ℕ) → FirstIn td (Holds Fit rd td (chain asked 0)) (suc from) (length td) t
-        → (us ss os m′ : List ℕ) → (length us ≡ 513) × (length ss ≡ roomWords) → Logged Fit rd td asked k ls from t us os → Marks rd asked k m m′
+        → (us ss os m′ : List ℕ) → (length us ≡ 513) × (length ss ≡ roomWords) → Logged Fit rd td asked k ls from t us os → Marks rd asked k 15 m m′
         → (t ≤ length td) × Stage Fit rd td m us ss os (set m′ n t) v
     row-pass =
         rw next

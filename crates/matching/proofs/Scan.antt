@@ -1,7 +1,7 @@
 -- The first row to close of those that obey P, as those with a label do, found by one scan: the first of them, then the first below that one, and
 -- so on. Assumes nothing.
 use mathlib.Core.Path.{_≡_, refl, sym, ap}
-use mathlib.Core.Bool.{Bool, true, false, true≢false}
+use mathlib.Core.Bool.{Bool, true, false, _&&_, true≢false}
 use mathlib.Core.List.{List}
 use mathlib.Core.Logic.{_↔_}
 use Prim.Native.Nat.{ℕ, zero, suc, _≤_, _<_}
@@ -19,6 +19,11 @@ use Rattle.matching.specs.EarliestClose.{Holds}
 use Rattle.matching.specs.Placing.{FirstIn, latest}
 use Rattle.matching.proofs.Holds.{holds-iff}
 use Rattle.matching.proofs.LeftLeaf.{descent-on}
+
+-- a test of two parts tells whether both hold
+pub both-tell : {P Q : Type 0} (b c : Bool) → ((b ≡ true) ↔ P) → ((c ≡ true) ↔ Q) → ((b && c) ≡ true) ↔ (P × Q)
+both-tell true c p q = (λ e. (p .0 refl, q .0 e), λ h. q .1 (h .1))
+both-tell false c p q = (λ e. absurd (true≢false (sym e)), λ h. absurd (true≢false (sym (p .1 (h .0)))))
 
 -- of the rows behind `from` rows, up to row r, the scan has come upon row h last, or upon none (0): h obeys P, the rows after it
 -- are below it and do not, and those before it that do close later

@@ -93,7 +93,7 @@ module _ {ws rl td tl : List ℕ} (k : Ready ws rl td tl) {asked ls : List ℕ} 
       sweep-size = c .kept .size
 
       pub sweep-sought : Sought ws rl us l l
-      sweep-sought = record { some = p .some; few = omega arith; low = p .low; path = path-same (recipeOf ws rl) asked us l (c .keep) (p .path) }
+      sweep-sought = record { some = p .some; few = omega arith; path = path-same (recipeOf ws rl) asked us l (c .keep) (p .path) }
 
       pub sweep-begins : (d : ℕ) → depth (recipeOf ws rl) (chain asked 0) ≤ d → Begins ws rl us ss 0 l d
       sweep-begins d o =

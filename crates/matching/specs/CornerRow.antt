@@ -1,5 +1,6 @@
 -- A corner as one row of the recipe: the row of its last subtree, 0 for the empty corner; and how the corners of a listing's
 -- forest follow from those of its parts. `test v t` says whether recipe row v fits listing row t. Assumes nothing.
+use mathlib.Core.Path.{_≡_}
 use mathlib.Core.Bool.{Bool, true, false, _&&_}
 use mathlib.Core.List.{List}
 use Prim.Native.Nat.{ℕ, zero, suc, _≤_}
@@ -59,6 +60,10 @@ corners test rd (cons t f r) x =
 abbrev pub cornerAt : (ℕ → ℕ → Bool) → List ℕ → Forest ℕ → ℕ → ℕ
 cornerAt test rd f zero = 0
 cornerAt test rd f (suc z) = corners test rd f (suc z)
+
+-- row v stands on the chain of row x: x, its first child, that one's first child, down to the left-most leaf
+abbrev pub Chained : List ℕ → ℕ → ℕ → Type 0
+Chained rd x v = (x ≤ v) × (leftLeaf rd v ≡ leftLeaf rd x)
 
 -- a corner a on chain x is 0, or a row that stands no deeper than the left-most leaf of x
 pub record OnChain (rd : List ℕ) (x a : ℕ) : Type 0 where

@@ -1,6 +1,6 @@
 -- What the two corner functions do: the corners of the chains asked, of a forest and of a tree that joins. Assumes nothing.
 use mathlib.Core.Path.{_≡_}
-use mathlib.Core.List.{List}
+use mathlib.Core.List.{List, [], _∷_}
 use Prim.Native.Nat.{ℕ, suc, _+_, _-_, _≤_, _<_}
 use lib.ListN.{length, getD}
 use Rattle.rows.specs.Limits.{listingRows}
@@ -52,11 +52,10 @@ abbrev pub withTree : List ℕ → List ℕ → List ℕ → List ℕ → ℕ �
 withTree ws rl td tl first x a =
     joinRow (recipeOf ws rl) a (cornerOf ws rl tl (treeAt td first) x) (cornerOf ws rl tl (treeAt td first) (rightSibling (recipeOf ws rl) a))
 
--- chains are asked, of which the first k, at most 15, are a path: its first row is sought; where k is 0, none is
+-- chains are asked, of which the first k make a path: its first row is sought; where k is 0, none is
 pub record Sought (ws rl asked : List ℕ) (q k : ℕ) : Type 0 where
   pub some : 1 ≤ q
   pub few : k ≤ q
-  pub low : k ≤ 15
   pub path : Path (recipeOf ws rl) asked k
 
 -- a pass over the listing rows behind `first` rows, up to row `last`, found row t: the first to close that holds the row sought
@@ -96,6 +95,8 @@ pub record Idle (ws rl td tl asked : List ℕ) (z first r : ℕ) : Type 0 where
   pub last : 1 ≤ r → r ≡ lastRow td (suc first)
   pub none : 1 ≤ r → (y : ℕ) → first < y → y ≤ r → LeafAsked ws rl asked z (at tl y) → ⊥
 
--- t is the first listing row to close that holds recipe row 1, or 0 where that is not known
-abbrev pub Known : List ℕ → List ℕ → List ℕ → List ℕ → ℕ → Type 0
-Known ws rl td tl t = 1 ≤ t → FirstIn td (Holds (SameLabel rl tl) (recipeOf ws rl) td 1) 1 (length td) t
+-- t is 0, or the first listing row to close that holds recipe row 1, and then the log tells of its tree and of row 1's chain
+pub record Known (ws rl td tl ls : List ℕ) (t : ℕ) : Type 0 where
+  pub first : 1 ≤ t → FirstIn td (Holds (SameLabel rl tl) (recipeOf ws rl) td 1) 1 (length td) t
+  pub path : 1 ≤ t → Path (recipeOf ws rl) (1 ∷ []) 1
+  pub told : 1 ≤ t → (y : ℕ) → t ≤ y → y ≤ lastRow td t → Told (SameLabel rl tl) (recipeOf ws rl) td (1 ∷ []) 1 ls y

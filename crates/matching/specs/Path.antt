@@ -3,31 +3,47 @@
 use mathlib.Core.Path.{_≡_}
 use mathlib.Core.Bool.{true, false}
 use mathlib.Core.List.{List}
-use Prim.Native.Nat.{ℕ, suc, _+_, _-_, _/_, _%_, _≤_, _<_}
+use Prim.Native.Nat.{ℕ, suc, _+_, _-_, _/_, _%_, _≤_, _<_, min}
 use lib.Dec.{leb}
 use lib.ListN.{length, getD, drop}
 use Rattle.rows.specs.Rows.{at, Row, depth, descendants, lastRow, Ancestor, LeftOf}
 use Rattle.matching.specs.Family.{parent}
+use Rattle.matching.specs.CornerRow.{Chained}
 use Rattle.matching.specs.EarliestClose.{Holds}
 use Rattle.matching.specs.Placing.{HeldIn}
 use Rattle.matching.specs.Shape.{word}
-use Rattle.matching.specs.Asked.{Asked, Keep, chain}
+use Rattle.matching.specs.Asked.{Asked, Keep, Asks, chain}
 use Rattle.matching.specs.Room.{roomWords, roomFor}
 
--- the first k chains asked are a path down the recipe: each of its rows has rows below it, and is the parent of the next
+-- the first k chains asked make a path down the recipe: each begins at a row with rows below it, which is a child of a row of the chain before
 pub record Path (rd asked : List ℕ) (k : ℕ) : Type 0 where
   pub rows : (i : ℕ) → i < k → Row rd (chain asked i)
   pub inner : (i : ℕ) → i < k → 1 ≤ descendants rd (chain asked i)
-  pub down : (i : ℕ) → suc i < k → parent rd (chain asked (suc i)) ≡ chain asked i
+  pub down : (i : ℕ) → suc i < k → Chained rd (chain asked i) (parent rd (chain asked (suc i)))
 
--- all chains asked are a path of at most 15 rows, and there is room for the levels of a pass with it that begins no higher than its first
--- row stands
+-- row v stands at place i of this path, i levels below its first row: on one of its chains, above the next, with rows below it
+pub record OnPath (rd asked : List ℕ) (k i v : ℕ) : Type 0 where
+  pub nth : ℕ
+  pub few : nth < k
+  pub row : Row rd v
+  pub inner : 1 ≤ descendants rd v
+  pub on : Chained rd (chain asked nth) v
+  pub deep : depth rd v ≡ depth rd (chain asked 0) + i
+  pub high : suc nth < k → depth rd v < depth rd (chain asked (suc nth))
+
+-- all chains asked make a path, and there is room for the levels of a pass with it that begins no higher than its first row stands
 pub record PathAsked (rd asked : List ℕ) (k : ℕ) : Type 0 where
   pub some : 1 ≤ k
-  pub low : k ≤ 15
   pub chains : Asked (length rd) asked k
   pub path : Path rd asked k
   pub room : roomFor (length rd) k (64 - depth rd (chain asked 0)) ≤ roomWords
+
+-- of the chains us, n are asked: the k of ws and row u too; or the same, where u has the left-most leaf of the last of them. n is 0, and none
+-- more asked, where that would be more than `most`
+pub data AsksNext (shape ws : List ℕ) (k most u : ℕ) (us : List ℕ) (n : ℕ) : Type 0 where
+  chained : word 2 shape u ≡ word 2 shape (chain ws (k - 1)) → us ≡ ws → n ≡ k → AsksNext shape ws k most u us n
+  asks : k < most → Asks ws k u us n → AsksNext shape ws k most u us n
+  stops : us ≡ ws → n ≡ 0 → AsksNext shape ws k most u us n
 
 -- the tree at listing row t includes recipe row v with all its descendants
 abbrev pub Within : (ℕ → ℕ → Type 0) → List ℕ → List ℕ → ℕ → ℕ → Type 0
@@ -40,18 +56,20 @@ logBytes = 2048
 unfoldable pub logged : List ℕ → ℕ → ℕ
 logged ls t = elim (leb t logBytes) [ true ↦ at ls t % 16 | false ↦ at ls (t - logBytes) / 16 ]
 
--- of listing row t and recipe row v at place i of a path: the log has at most i for t only if t's tree includes v, and it has if t holds v
+-- of listing row t and recipe row v at place i of a path: the log has at most i for t if t holds v; and where t fits v, only if t's tree
+-- includes v
 abbrev pub Tells : (ℕ → ℕ → Type 0) → List ℕ → List ℕ → List ℕ → ℕ → ℕ → ℕ → Type 0
-Tells Fit rd td ls t i v = (Holds Fit rd td v t → logged ls t ≤ i) × (logged ls t ≤ i → Within Fit rd td v t)
+Tells Fit rd td ls t i v = (Holds Fit rd td v t → logged ls t ≤ i) × (Fit v t → logged ls t ≤ i → Within Fit rd td v t)
 
--- so the log tells of listing row t and all rows of the path but its first: that one is sought itself
+-- so the log tells of listing row t and the rows of the path behind its first, which is sought itself, as far as half a byte goes: 15 is the
+-- place of no row
 abbrev pub Told : (ℕ → ℕ → Type 0) → List ℕ → List ℕ → List ℕ → ℕ → List ℕ → ℕ → Type 0
-Told Fit rd td asked k ls t = (i : ℕ) → 1 ≤ i → i < k → Tells Fit rd td ls t i (chain asked i)
+Told Fit rd td asked k ls t = (i v : ℕ) → 1 ≤ i → i < 15 → OnPath rd asked k i v → Tells Fit rd td ls t i v
 
--- the log ls got `place` for the row behind `first` rows, unless the path has less than two rows: ms
+-- the log ls got `place` for the row behind `first` rows, unless there is no path: ms
 pub record Put (ls : List ℕ) (first place k : ℕ) (ms : List ℕ) : Type 0 where
   pub size : length ms ≡ logBytes
-  pub here : 2 ≤ k → logged ms (suc first) ≡ place
+  pub here : 1 ≤ k → logged ms (suc first) ≡ place
   pub others : (y : ℕ) → (y ≡ suc first → ⊥) → logged ms y ≡ logged ls y
 
 -- of the log ls all that changed stands at the rows lo to hi: ms
@@ -59,9 +77,9 @@ pub record Kept (ls : List ℕ) (lo hi : ℕ) (ms : List ℕ) : Type 0 where
   pub size : length ms ≡ logBytes
   pub stays : (y : ℕ) → (lo ≤ y → y ≤ hi → ⊥) → logged ms y ≡ logged ls y
 
--- the log ls got 15, the place of no row, for the rows behind `first` rows up to row r, unless the path has less than two rows: ms
+-- the log ls got 15, the place of no row, for the rows behind `first` rows up to row r, unless there is no path: ms
 pub record Blank (ls : List ℕ) (first r k : ℕ) (ms : List ℕ) : Type 0 where
-  pub none : 2 ≤ k → (y : ℕ) → first < y → y ≤ r → logged ms y ≡ 15
+  pub none : 1 ≤ k → (y : ℕ) → first < y → y ≤ r → logged ms y ≡ 15
   pub kept : Kept ls (suc first) r ms
 
 -- a search behind `first` rows came upon row t: the path still stands in the chains us, the log tells of the tree at t, and of the rows
@@ -71,22 +89,28 @@ pub record Logged (Fit : ℕ → ℕ → Type 0) (rd td asked : List ℕ) (k : �
   pub told : (y : ℕ) → t ≤ y → y ≤ lastRow td t → Told Fit rd td asked k ms y
   pub kept : Kept ls (suc first) (lastRow td t) ms
 
--- the q corners that stand in the room rs from base on: the i-th is on the level of the i-th chain asked
-abbrev pub Level : List ℕ → List ℕ → List ℕ → ℕ → ℕ → Type 0
-Level ws asked rs base i = (1 ≤ getD rs (base + i) 0) × (word 3 ws (getD rs (base + i) 0) ≡ word 3 ws (chain asked i))
+-- the corner w on the i-th of a path's k chains tells of it: it is a row, and stands above the next chain
+abbrev pub Met : List ℕ → List ℕ → ℕ → ℕ → ℕ → Type 0
+Met ws asked k i w = (1 ≤ w) × (suc i < k → word 3 ws w < word 3 ws (chain asked (suc i)))
 
--- of k corners the r-th is the first on the level of its chain; r is k where none is
-pub record FirstLevel (ws asked rs : List ℕ) (base k r : ℕ) : Type 0 where
-  pub most : r ≤ k
-  pub before : (i : ℕ) → i < r → Level ws asked rs base i → ⊥
-  pub level : r < k → Level ws asked rs base r
+-- of the k corners from base on, r is how far the first that tells of the path stands below the path's first row; 15 where that is more, or
+-- none tells of it
+pub data FirstPlace (ws asked rs : List ℕ) (base k r : ℕ) : Type 0 where
+  met : (i : ℕ) → i < k → ((j : ℕ) → j < i → Met ws asked k j (getD rs (base + j) 0) → ⊥) → Met ws asked k i (getD rs (base + i) 0)
+      → r ≡ min 15 (word 3 ws (getD rs (base + i) 0) - word 3 ws (chain asked 0)) → FirstPlace ws asked rs base k r
+  none : ((j : ℕ) → j < k → Met ws asked k j (getD rs (base + j) 0) → ⊥) → r ≡ 15 → FirstPlace ws asked rs base k r
 
--- in the map m each row of the path behind its first has got its place as a mark: m′. All other slots stayed
-pub record Marks (rd asked : List ℕ) (k : ℕ) (m m′ : List ℕ) : Type 0 where
+-- slot c of the map m is as before in m′, or row c stands on the path behind its first row, and has got its place as a mark, as the rows of the
+-- path above it have. All places are below `end`
+pub data Slot (rd asked : List ℕ) (k end : ℕ) (m m′ : List ℕ) (c : ℕ) : Type 0 where
+  stays : at m′ c ≡ at m c → Slot rd asked k end m m′ c
+  marked : (i : ℕ) → 1 ≤ i → i < end → OnPath rd asked k i c → at m′ c ≡ i → (chain asked 0 < parent rd c → 1 ≤ at m′ (parent rd c))
+      → Slot rd asked k end m m′ c
+
+pub record Marks (rd asked : List ℕ) (k end : ℕ) (m m′ : List ℕ) : Type 0 where
   pub size : length m′ ≡ length m
   pub rest : drop (length rd) m′ ≡ drop (length rd) m
-  pub marked : (i : ℕ) → 1 ≤ i → i < k → at m′ (chain asked i) ≡ i
-  pub others : (c : ℕ) → ((i : ℕ) → 1 ≤ i → i < k → chain asked i ≡ c → ⊥) → at m′ c ≡ at m c
+  pub slots : (c : ℕ) → Slot rd asked k end m m′ c
 
 -- what the marks in the map say, once its first n rows have their images. A mark at a later row c says where on a path c stands whose
 -- upper rows have images or marks themselves; and of c the log tells for the listing rows below the image of one of its ancestors, right of

@@ -59,7 +59,7 @@ fn top_corner(
 ) -> Top
     requires { ⌜ Ready (now shape) (now labels) (now depths) (now names) × (1 ≤ length (recipeOf (now shape) (now labels))) ⌝ }
     requires { ⌜ (length (now asked) ≡ 513) × (length (now room) ≡ roomWords) × (length (now log) ≡ logBytes) ⌝ }
-    ensures { λ r. ⌜ (r .corner ≡ cornerOf (now (shape .entry)) (now (labels .entry)) (now (names .entry)) (forest (now (depths .entry))) 1) × Known (now (shape .entry)) (now (labels .entry)) (now (depths .entry)) (now (names .entry)) (r .image) ⌝ }
+    ensures { λ r. ⌜ (r .corner ≡ cornerOf (now (shape .entry)) (now (labels .entry)) (now (names .entry)) (forest (now (depths .entry))) 1) × Known (now (shape .entry)) (now (labels .entry)) (now (depths .entry)) (now (names .entry)) (now (log .exit)) (r .image) ⌝ }
     ensures { λ r. ⌜ (length (now (asked .exit)) ≡ 513) × (length (now (room .exit)) ≡ roomWords) × (length (now (log .exit)) ≡ logBytes) ⌝ }
 {
     if depths.len() == 0 {

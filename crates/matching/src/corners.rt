@@ -2,21 +2,20 @@
 ghost use mathlib.Core.Path.{_≡_};
 ghost use mathlib.Core.Bool.{true};
 ghost use mathlib.Core.Logic.{_↔_};
-ghost use Prim.Native.Nat.{ℕ, suc, _≤_, _<_, _+_};
+ghost use Prim.Native.Nat.{ℕ, suc, _≤_, _<_, _+_, _-_, min};
 ghost use lib.ListN.{length, getD};
 ghost use Rattle.rows.specs.Rows.{depth, lastRow};
 ghost use Rattle.rows.specs.Forest.{size, forestAt};
 ghost use Rattle.matching.specs.CornerRow.{OnChain};
 ghost use Rattle.matching.specs.Shape.{Shape, word};
 ghost use Rattle.matching.specs.Asked.{chain, noted};
-ghost use Rattle.matching.specs.Path.{logBytes, FirstLevel};
+ghost use Rattle.matching.specs.Path.{logBytes, Met, FirstPlace};
 ghost use Rattle.matching.specs.Engine.{Ready, Begins, Sought, Passed, Bare, cornerOf, withTree};
 ghost use Rattle.matching.specs.Room.{roomWords, recipeOf, following, Written, closed, joined, joinedAlone, Joins};
 use crate::asked::extend;
 use crate::asked::wide;
 use crate::idle::idle_end;
 use crate::joining::close_row;
-use crate::joining::is_level;
 use crate::joining::join_alone;
 use crate::joining::join_row;
 use crate::log::write_log;
@@ -143,8 +142,34 @@ fn bare_end(depths: &[u16], names: &[u32], shape: &[u16; 1156], first: usize) ->
     end
 }
 
-// Of the corners from base on of the k chains asked first, the place of the first that stands on the level of its chain; k if none does.
-fn first_level(
+// How many levels depth d is below depth top; 15 where it is more.
+fn levels_below(top: u16, d: u16) -> usize
+    requires { ⌜ top ≤ d ⌝ }
+    ensures { λ r. ⌜ r ≡ min 15 (d - top) ⌝ }
+{
+    if 15 <= d - top {
+        return 15;
+    }
+    (d - top) as usize
+}
+
+// Whether the corner w on the i-th of the path's k chains tells of it: it is a row, and stands above the next chain.
+fn is_met(shape: &[u16; 1156], asked: &[u16; 513], k: usize, i: usize, w: u16) -> bool
+    requires { ⌜ (i < k) × (k ≤ 256) × (w ≤ 256) × (suc i < k → chain (now asked) (suc i) ≤ 256) ⌝ }
+    ensures { λ r. ⌜ (r ≡ true) ↔ Met (now (shape .entry)) (now (asked .entry)) k i w ⌝ }
+{
+    if w == 0 {
+        return false;
+    }
+    if i + 1 < k {
+        return depth_of(shape, w) < depth_of(shape, asked[i + 1]);
+    }
+    true
+}
+
+// The place of the first row of the path that a tree includes, by its corners on the path's k chains, which stand from base on; 15 if it is
+// farther down, or there is none.
+fn first_place(
     shape: &[u16; 1156],
     asked: &[u16; 513],
     room: &[u16; 14592],
@@ -152,31 +177,23 @@ fn first_level(
     k: usize,
 ) -> usize
     requires { ⌜ (k ≤ 256) × (base + k ≤ roomWords) × (length (now room) ≡ roomWords) ⌝ }
-    requires { ⌜ ((i : ℕ) → i < k → (chain (now asked) i ≤ 256) × (getD (now room) (base + i) 0 ≤ 256)) ⌝ }
-    ensures { λ r. ⌜ FirstLevel (now (shape .entry)) (now (asked .entry)) (now (room .entry)) base k r ⌝ }
+    requires { ⌜ ((i : ℕ) → i < k → (chain (now asked) i ≤ 256) × (getD (now room) (base + i) 0 ≤ 256) × (1 ≤ getD (now room) (base + i) 0 → word 3 (now shape) (chain (now asked) 0) ≤ word 3 (now shape) (getD (now room) (base + i) 0))) ⌝ }
+    ensures { λ r. ⌜ FirstPlace (now (shape .entry)) (now (asked .entry)) (now (room .entry)) base k r ⌝ }
 {
     let mut i = 0;
     while i < k {
-        if is_level(shape, room[base + i], depth_of(shape, asked[i])) {
-            return i;
+        let w = room[base + i];
+        if is_met(shape, asked, k, i, w) {
+            return levels_below(depth_of(shape, asked[0]), depth_of(shape, w));
         }
         i += 1;
     }
-    k
-}
-
-// Whether the first of k rows is held, where `held` is the place of the first that is.
-fn is_found(held: usize, k: usize) -> bool
-    ensures { λ r. ⌜ (r ≡ true) ↔ ((held ≡ 0) × (1 ≤ k)) ⌝ }
-{
-    if held == 0 {
-        return k != 0;
-    }
-    false
+    15
 }
 
 // Tree against forest: the tree whose first row stands behind `first` rows of the listing joins the q corners from base on, unless
-// one of its rows holds the first of the k rows of the path. The log notes for each of its rows what its tree includes of the path.
+// one of its rows holds the first row of the path by k of the chains asked. The log notes for each of its rows whose label is of a kind that
+// the recipe has what its tree includes of the path.
 // Answers how many rows stand before the tree's end; or, beyond the limit of a listing, the row found.
 fn tree_corners(
     depths: &[u16],
@@ -200,7 +217,7 @@ fn tree_corners(
 {
     let bare = bare_end(depths, names, shape, first);
     if bare != 0 {
-        write_none(log, first, bare, k);
+        write_log(log, first, 15, k);
         join_leaf(shape, labels, names[first], asked, room, base, q);
         return bare;
     }
@@ -227,9 +244,9 @@ fn tree_corners(
         return end;
     }
     close_asked(shape, labels, names[first], asked, room, base + q, z);
-    let held = first_level(shape, asked, room, base + q, k);
-    write_log(log, first, held as u8, k);
-    if is_found(held, k) {
+    let place = first_place(shape, asked, room, base + q, k);
+    write_log(log, first, place as u8, k);
+    if place == 0 {
         return rows::LISTING_ROWS + first + 1;
     }
     join_asked(shape, labels, asked, room, base, q, z);
@@ -265,7 +282,6 @@ pub(crate) fn forest_corners(
             return at;
         }
         if is_foreign(shape, names[at]) {
-            write_log(log, at, 15, k);
             at += 1;
         } else {
             at = tree_corners(

@@ -3,18 +3,19 @@ ghost use mathlib.Core.Path.{_≡_};
 ghost use Prim.Native.Nat.{_≤_, _-_};
 ghost use lib.ListN.{length, take, drop, set};
 ghost use Rattle.rows.specs.Limits.{listingRows};
-ghost use Rattle.rows.specs.Rows.{at, Row};
+ghost use Rattle.rows.specs.Rows.{at, Row, Outline, descendants};
 ghost use Rattle.rows.specs.Embedding.{SameLabel, Included};
 ghost use Rattle.matching.specs.Family.{leftSibling, parent};
 ghost use Rattle.matching.specs.EarliestClose.{EarliestClose};
 ghost use Rattle.matching.specs.Placing.{barred};
 ghost use Rattle.matching.specs.Path.{logBytes};
 ghost use Rattle.matching.specs.Images.{Cleared, Begun, Stage};
+ghost use Rattle.matching.specs.Shape.{Shape};
 ghost use Rattle.matching.specs.Room.{recipeOf, roomWords};
 ghost use Rattle.matching.specs.Engine.{Ready, Known};
 use crate::link::kin_of;
 use crate::path::ask_path;
-use crate::path::mark_path;
+use crate::path::mark_chain;
 use crate::seek::seek_label;
 use crate::seek::seek_logged;
 use crate::shape::leaf_of;
@@ -50,7 +51,7 @@ fn clear_marks(recipe: &[u16], map: &mut [u16])
 }
 
 // The image of recipe row v, whose window begins behind `from` rows: a leaf's by its label, a marked row's by the log, any other's by a
-// pass, which leaves marks for the path below it.
+// pass, for which the path below it is marked.
 fn find_image(
     depths: &[u16],
     names: &[u32],
@@ -70,15 +71,15 @@ fn find_image(
     ensures { λ r. ⌜ (r ≤ length (now (depths .entry))) × Stage (SameLabel (now (labels .entry)) (now (names .entry))) (now (recipe .entry)) (now (depths .entry)) (now (map .entry)) (now (asked .exit)) (now (room .exit)) (now (log .exit)) (set (now (map .exit)) (v - 1) r) v ⌝ }
     ensures { λ r. ⌜ length (now (map .exit)) ≡ length (now (map .entry)) ⌝ }
 {
+    let name = labels[(v as usize) - 1];
     if leaf_of(shape, v) == v {
-        return seek_label(depths, names, labels[(v as usize) - 1], from);
+        return seek_label(depths, names, name, from);
     }
     let mark = image_of(map, v);
     if mark != 0 {
-        return seek_logged(depths, log, mark, from);
+        return seek_logged(depths, names, name, log, mark, from);
     }
-    let k = ask_path(recipe, shape, asked, v);
-    mark_path(recipe, asked, k, map);
+    let k = ask_path(recipe, shape, asked, map, v);
     seek_behind(depths, from, names, shape, labels, asked, room, log, k)
 }
 
@@ -118,14 +119,16 @@ fn place_row(
     map[(v as usize) - 1] = image as u16;
 }
 
-// Places row 1 where its image is known already. Answers how many rows are placed.
-fn place_known(known: usize, map: &mut [u16]) -> usize
-    requires { ⌜ (known ≤ listingRows) × (1 ≤ length (now map)) ⌝ }
-    ensures { λ r. ⌜ Begun known (now (map .entry)) r (now (map .exit)) ⌝ }
+// Places row 1 where its image is known already, and marks the rows of its chain. Answers how many rows are placed.
+fn place_known(recipe: &[u16], shape: &[u16; 1156], known: usize, map: &mut [u16]) -> usize
+    requires { ⌜ Shape (now recipe) (now shape) × Outline (now recipe) × (1 ≤ known → 1 ≤ descendants (now recipe) 1) ⌝ }
+    requires { ⌜ (known ≤ listingRows) × (1 ≤ length (now recipe)) × (length (now recipe) ≤ length (now map)) ⌝ }
+    ensures { λ r. ⌜ Begun (now (recipe .entry)) known (now (map .entry)) r (now (map .exit)) ⌝ }
 {
     if known == 0 {
         return 0;
     }
+    mark_chain(recipe, shape, map);
     map[0] = known as u16;
     1
 }
@@ -147,12 +150,12 @@ pub(crate) fn place_rows(
     requires { ⌜ Ready (now shape) (now labels) (now depths) (now names) × (recipeOf (now shape) (now labels) ≡ now recipe) ⌝ }
     requires { ⌜ (1 ≤ length (now recipe)) × (length (now recipe) ≤ length (now map)) ⌝ }
     requires { ⌜ Included (SameLabel (now labels) (now names)) (now recipe) (now depths) ⌝ }
-    requires { ⌜ (length (now asked) ≡ 513) × (length (now room) ≡ roomWords) × (length (now log) ≡ logBytes) × Known (now shape) (now labels) (now depths) (now names) known ⌝ }
+    requires { ⌜ (length (now asked) ≡ 513) × (length (now room) ≡ roomWords) × (length (now log) ≡ logBytes) × Known (now shape) (now labels) (now depths) (now names) (now log) known ⌝ }
     ensures { λ r. ⌜ EarliestClose (SameLabel (now (labels .entry)) (now (names .entry))) (now (recipe .entry)) (now (depths .entry)) (take (length (now (recipe .entry))) (now (map .exit))) ⌝ }
     ensures { λ r. ⌜ drop (length (now (recipe .entry))) (now (map .exit)) ≡ drop (length (now (recipe .entry))) (now (map .entry)) ⌝ }
 {
     clear_marks(recipe, map);
-    let mut n = place_known(known, map);
+    let mut n = place_known(recipe, shape, known, map);
     while n < recipe.len() {
         n += 1;
         place_row(

@@ -1,5 +1,5 @@
 // The log of a pass: for each listing row half a byte, the place of the first row of the path that its tree includes; 15 where there is
-// none, and for rows that the pass did not look into.
+// none. It has nothing of rows whose labels are of kinds that the recipe has not.
 ghost use mathlib.Core.Path.{_≡_};
 ghost use Prim.Native.Nat.{suc, _/_, _%_, _≤_, _<_};
 ghost use lib.ListN.{length};
@@ -36,12 +36,12 @@ pub(crate) fn read_log(log: &[u8; 2048], first: usize) -> u16
     widened(upper(log[first - 2048]))
 }
 
-// The log gets `place` for the row behind `first` rows, unless the path has less than two rows: then nobody reads it.
+// The log gets `place` for the row behind `first` rows, unless there is no path: then nobody reads it.
 pub(crate) fn write_log(log: &mut [u8; 2048], first: usize, place: u8, k: usize)
     requires { ⌜ (first < listingRows) × (place < 16) × (length (now log) ≡ logBytes) ⌝ }
     ensures { λ r. ⌜ Put (now (log .entry)) first place k (now (log .exit)) ⌝ }
 {
-    if k < 2 {
+    if k == 0 {
         return;
     }
     if first < 2048 {

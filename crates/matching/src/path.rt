@@ -1,22 +1,24 @@
-// A path down the recipe, whose rows are sought together: a row, of its children the one with the most rows below it, and so on.
+// A path down the recipe, whose rows are sought together: a row, of its children the one with the most rows below it, and so on. Rows of it
+// that are first children stand on one chain, and one corner tells of them all.
 ghost use mathlib.Core.Path.{_≡_};
+ghost use mathlib.Core.List.{[], _∷_};
 ghost use Prim.Native.Nat.{ℕ, _≤_, _<_, _-_};
 ghost use lib.ListN.{length};
 ghost use Rattle.rows.specs.Rows.{Row, Outline, depth, descendants};
 ghost use Rattle.matching.specs.Family.{parent};
 ghost use Rattle.matching.specs.Shape.{Shape};
-ghost use Rattle.matching.specs.Asked.{chain};
+ghost use Rattle.matching.specs.Asked.{chain, Asked};
 ghost use Rattle.matching.specs.Room.{roomWords, roomFor};
-ghost use Rattle.matching.specs.Path.{PathAsked, Marks};
+ghost use Rattle.matching.specs.Path.{PathAsked, AsksNext, Marks};
 use crate::asked::ask;
 use crate::shape::leaf_of;
 use crate::shape::right_of;
 
-// How many rows a path from row v on may have: 15, so that a place on it fits half a byte; one alone where the levels of a pass might
+// How many chains a path from row v on may have: any 15, one for each place that the log can tell; one alone where the levels of a pass might
 // not have room, that is in the upper levels of a recipe of over 228 rows.
-fn most_rows(recipe: &[u16], v: u16) -> usize
+fn most_chains(recipe: &[u16], v: u16) -> usize
     requires { ⌜ length (now recipe) ≤ 256 ⌝ }
-    ensures { λ r. ⌜ (1 ≤ r) × (r ≤ 15) × ((k : ℕ) → k ≤ r → k ≤ length (now (recipe .entry)) → roomFor (length (now (recipe .entry))) k (64 - depth (now (recipe .entry)) v) ≤ roomWords) ⌝ }
+    ensures { λ r. ⌜ (1 ≤ r) × ((k : ℕ) → k ≤ r → k ≤ length (now (recipe .entry)) → roomFor (length (now (recipe .entry))) k (64 - depth (now (recipe .entry)) v) ≤ roomWords) ⌝ }
 {
     if recipe.len() <= 228 {
         return 15;
@@ -47,33 +49,65 @@ fn widest_child(recipe: &[u16], shape: &[u16; 1156], u: u16) -> u16
     best
 }
 
-// Asks the rows of the path from row v on that have rows below them, v among them. Answers how many.
-pub(crate) fn ask_path(recipe: &[u16], shape: &[u16; 1156], asked: &mut [u16; 513], v: u16) -> usize
-    requires { ⌜ Shape (now recipe) (now shape) × Outline (now recipe) × Row (now recipe) v × (1 ≤ descendants (now recipe) v) ⌝ }
-    requires { ⌜ length (now asked) ≡ 513 ⌝ }
-    ensures { λ r. ⌜ PathAsked (now (recipe .entry)) (now (asked .exit)) r × (chain (now (asked .exit)) 0 ≡ v) ⌝ }
+// Asks row u too, unless it stands on the chain asked last. Answers how many are asked then; 0 where that would be more than `most`.
+fn ask_next(shape: &[u16; 1156], asked: &mut [u16; 513], k: usize, most: usize, u: u16) -> usize
+    requires { ⌜ (1 ≤ k) × (u ≤ 256) × Asked 256 (now asked) k ⌝ }
+    ensures { λ r. ⌜ AsksNext (now (shape .entry)) (now (asked .entry)) k most u (now (asked .exit)) r ⌝ }
 {
-    let most = most_rows(recipe, v);
-    let mut u = v;
-    let mut k = 0;
-    while k < most {
+    if leaf_of(shape, u) == leaf_of(shape, asked[k - 1]) {
+        return k;
+    }
+    if most <= k {
+        return 0;
+    }
+    ask(asked, k, u)
+}
+
+// Asks the chains of the path from row v on that goes on by the widest child as long as it has rows below it, and marks in the map its rows
+// behind v with their places. Answers how many chains.
+pub(crate) fn ask_path(
+    recipe: &[u16],
+    shape: &[u16; 1156],
+    asked: &mut [u16; 513],
+    map: &mut [u16],
+    v: u16,
+) -> usize
+    requires { ⌜ Shape (now recipe) (now shape) × Outline (now recipe) × Row (now recipe) v × (1 ≤ descendants (now recipe) v) ⌝ }
+    requires { ⌜ (length (now asked) ≡ 513) × (length (now recipe) ≤ length (now map)) ⌝ }
+    ensures { λ r. ⌜ PathAsked (now (recipe .entry)) (now (asked .exit)) r × (chain (now (asked .exit)) 0 ≡ v) ⌝ }
+    ensures { λ r. ⌜ Marks (now (recipe .entry)) (now (asked .exit)) r 15 (now (map .entry)) (now (map .exit)) ⌝ }
+{
+    let most = most_chains(recipe, v);
+    let mut k = ask(asked, 0, v);
+    let mut u = widest_child(recipe, shape, v);
+    let mut place: u16 = 1;
+    while place < 15 {
         if leaf_of(shape, u) == u {
             return k;
         }
-        k = ask(asked, k, u);
+        let z = ask_next(shape, asked, k, most, u);
+        if z == 0 {
+            return k;
+        }
+        k = z;
+        map[(u as usize) - 1] = place;
+        place += 1;
         u = widest_child(recipe, shape, u);
     }
     k
 }
 
-// Marks in the map, for each row of the path behind its first, its place on the path.
-pub(crate) fn mark_path(recipe: &[u16], asked: &[u16; 513], k: usize, map: &mut [u16])
-    requires { ⌜ PathAsked (now recipe) (now asked) k × (length (now recipe) ≤ length (now map)) × (length (now recipe) ≤ 256) ⌝ }
-    ensures { λ r. ⌜ Marks (now (recipe .entry)) (now (asked .entry)) k (now (map .entry)) (now (map .exit)) ⌝ }
+// Marks in the map the rows of row 1's chain behind row 1 that have rows below them, where row 1 has such: their places are their depths.
+pub(crate) fn mark_chain(recipe: &[u16], shape: &[u16; 1156], map: &mut [u16])
+    requires { ⌜ Shape (now recipe) (now shape) × Outline (now recipe) × (1 ≤ descendants (now recipe) 1) × (length (now recipe) ≤ length (now map)) ⌝ }
+    ensures { λ r. ⌜ Marks (now (recipe .entry)) (1 ∷ []) 1 15 (now (map .entry)) (now (map .exit)) ⌝ }
 {
-    let mut i = 1;
-    while i < k {
-        map[(asked[i] as usize) - 1] = i as u16;
-        i += 1;
+    let mut place: u16 = 1;
+    while place < 15 {
+        if leaf_of(shape, place + 1) == place + 1 {
+            return;
+        }
+        map[place as usize] = place;
+        place += 1;
     }
 }

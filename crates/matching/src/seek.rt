@@ -1,6 +1,6 @@
 // Where a recipe row goes: the first to close of the listing rows in its window that hold it with all its descendants.
 ghost use mathlib.Core.Path.{_≡_};
-ghost use mathlib.Core.Bool.{true};
+ghost use mathlib.Core.Bool.{true, _&&_};
 ghost use mathlib.Core.Logic.{_↔_};
 ghost use Prim.Native.Nat.{ℕ, suc, _≤_, _<_};
 ghost use lib.Dec.{eqb, leb};
@@ -58,22 +58,38 @@ pub(crate) fn seek_label(depths: &[u16], names: &[u32], name: u32, from: usize) 
     hit
 }
 
-// The row behind `passed` rows if the log has at most `mark` for it, else `hit`.
-fn latest_logged(log: &[u8; 2048], mark: u16, hit: usize, passed: usize) -> usize
-    requires { ⌜ passed < listingRows ⌝ }
-    ensures { λ r. ⌜ r ≡ latest (leb (logged (now (log .entry)) (suc passed)) mark) passed hit ⌝ }
+// The row behind `passed` rows if it has the label `name` and the log has at most `mark` for it, else `hit`.
+fn latest_logged(
+    names: &[u32],
+    name: u32,
+    log: &[u8; 2048],
+    mark: u16,
+    hit: usize,
+    passed: usize,
+) -> usize
+    requires { ⌜ (passed < listingRows) × (passed < length (now names)) ⌝ }
+    ensures { λ r. ⌜ r ≡ latest (eqb name (at (now (names .entry)) (suc passed)) && leb (logged (now (log .entry)) (suc passed)) mark) passed hit ⌝ }
 {
-    if read_log(log, passed) <= mark {
-        return passed + 1;
+    if name == names[passed] {
+        if read_log(log, passed) <= mark {
+            return passed + 1;
+        }
     }
     hit
 }
 
-// Of the rows behind `from` rows, for some of which the log has at most `mark`, the first of these to close.
-pub(crate) fn seek_logged(depths: &[u16], log: &[u8; 2048], mark: u16, from: usize) -> usize
-    requires { ⌜ Outline (now depths) × (length (now depths) ≤ listingRows) ⌝ }
-    requires { ⌜ ((y : ℕ) × (suc from ≤ y) × (y ≤ length (now depths)) × (logged (now log) y ≤ mark)) ⌝ }
-    ensures { λ r. ⌜ FirstIn (now (depths .entry)) (λ t. logged (now (log .entry)) t ≤ mark) (suc from) (length (now (depths .entry))) r ⌝ }
+// Of the rows behind `from` rows, some of which have the label `name` and at most `mark` in the log, the first of these to close.
+pub(crate) fn seek_logged(
+    depths: &[u16],
+    names: &[u32],
+    name: u32,
+    log: &[u8; 2048],
+    mark: u16,
+    from: usize,
+) -> usize
+    requires { ⌜ Outline (now depths) × (length (now depths) ≤ listingRows) × (length (now names) ≡ length (now depths)) ⌝ }
+    requires { ⌜ ((y : ℕ) × (suc from ≤ y) × (y ≤ length (now depths)) × (name ≡ at (now names) y) × (logged (now log) y ≤ mark)) ⌝ }
+    ensures { λ r. ⌜ FirstIn (now (depths .entry)) (λ t. (name ≡ at (now (names .entry)) t) × (logged (now (log .entry)) t ≤ mark)) (suc from) (length (now (depths .entry))) r ⌝ }
 {
     let mut hit = 0;
     let mut at = from;
@@ -81,7 +97,7 @@ pub(crate) fn seek_logged(depths: &[u16], log: &[u8; 2048], mark: u16, from: usi
         if is_past(depths, hit, at) {
             return hit;
         }
-        hit = latest_logged(log, mark, hit, at);
+        hit = latest_logged(names, name, log, mark, hit, at);
         at += 1;
     }
     hit

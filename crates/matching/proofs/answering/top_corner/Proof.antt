@@ -8,7 +8,7 @@ use Rattle.matching.specs.Room.{recipeOf, sameLabel}
 use Rattle.matching.specs.Engine.{cornerOf}
 use Rattle.matching.proofs.CornerRow.{corner-nothing}
 use Rattle.matching.proofs.Alone.{forest-none}
-use Rattle.matching.proofs.OnlyRoot.{first-sought, first-begins, first-through, first-found}
+use Rattle.matching.proofs.OnlyRoot.{known-none, first-sought, first-begins, first-through, first-found}
 use borrow.Author.Needs.{needs}
 use Rattle.matching.proofs.answering.top_corner.Statement.{statement}
 use Rattle.matching.proofs.answering.top_corner.Tie as tie
@@ -20,7 +20,7 @@ returns c =
       (
         sym (ap (λ (f : Forest ℕ). cornerOf (a .shape .now) (a .labels .now) (a .names .now) f 1) (forest-none (a .depths .now) (c .if1 .taken))
             ∙ corner-nothing (sameLabel (a .labels .now) (a .names .now)) (recipeOf (a .shape .now) (a .labels .now)) 1),
-        λ o. absurd (omega arith),
+        known-none,
       ),
       start .pre .1,
     )
@@ -69,7 +69,7 @@ returns-3 c =
     let g = start .pre in
     let n : 0 < length (start .args .depths .now) = omega (arith, left .if1 .left) in
     let s = first-through (g .0 .0) (g .0 .1) (start .args .asked .now) (g .1 .0) (sought .sought-rows .ensures) n (c .before .before .forest-corners .ensures) (c .before .if2 .left) in
-    ((s .0, λ o. absurd (omega arith)), s .1)
+    ((s .0, known-none), s .1)
 
 pub top-corner-spec : {M : Type 1} → statement M
 top-corner-spec =

@@ -4,11 +4,11 @@ use Rattle.rows.specs.Limits.{listingRows}
 use Rattle.rows.specs.Rows.{descendants}
 use Rattle.rows.proofs.Depths.{last-fits}
 use Rattle.matching.proofs.AskedLaws.{asked-more}
+use Rattle.matching.proofs.PathLaws.{place-most}
 use Rattle.matching.proofs.TreeJoins.{level-room, few, extend-fits, more-rows, z-few, chains-more, begins-below, z-room, close-fits, tree-joins}
 use Rattle.matching.proofs.TreePass.{belowEnd, BelowThrough, bare-through, idle-through, sought-below, below-found, below-fits, tree-found, tree-through}
 use Prim.Native.Nat.{suc, _≤_, _+_, _-_, _*_}
-use mathlib.Core.Path.{_≡_, sym, _∙_}
-use mathlib.Core.Bool.{true≢false}
+use mathlib.Core.Path.{_≡_, _∙_}
 use native.Mathlib.Omega.{arith}
 use native.Mathlib.Numerals.{add-one}
 use lib.ListN.{length}
@@ -26,8 +26,7 @@ use Rattle.matching.proofs.asked.extend.Reads as extend-reads
 use Rattle.matching.proofs.corners.bare_end.Reads as bare-end-reads
 use Rattle.matching.proofs.corners.clear.Reads as clear-reads
 use Rattle.matching.proofs.corners.close_asked.Reads as close-asked-reads
-use Rattle.matching.proofs.corners.first_level.Reads as first-level-reads
-use Rattle.matching.proofs.corners.is_found.Reads as is-found-reads
+use Rattle.matching.proofs.corners.first_place.Reads as first-place-reads
 use Rattle.matching.proofs.corners.join_asked.Reads as join-asked-reads
 use Rattle.matching.proofs.corners.join_leaf.Reads as join-leaf-reads
 use Rattle.matching.proofs.idle.idle_end.Reads as idle-end-reads
@@ -62,8 +61,6 @@ forest-claims t = (
   clear-reads.Learnt,
   is-foreign-reads.Asked,
   is-foreign-reads.Learnt,
-  write-log-reads.Asked,
-  write-log-reads.Learnt,
   tree-corners-below t,
   tree-corners.Post,
 )
@@ -72,24 +69,22 @@ abbrev tree-claims : ℕ → tree-corners-lts.Claims
 tree-claims t = (
   bare-end-reads.Asked,
   bare-end-reads.Learnt,
-  write-none-reads.Asked,
-  write-none-reads.Learnt,
+  write-log-reads.Asked,
+  write-log-reads.Learnt,
   join-leaf-reads.Asked,
   join-leaf-reads.Learnt,
   extend-reads.Asked,
   extend-reads.Learnt,
   idle-end-reads.Asked,
   idle-end-reads.Learnt,
+  write-none-reads.Asked,
+  write-none-reads.Learnt,
   forest-corners-below t,
   forest-corners.Post,
   close-asked-reads.Asked,
   close-asked-reads.Learnt,
-  first-level-reads.Asked,
-  first-level-reads.Learnt,
-  write-log-reads.Asked,
-  write-log-reads.Learnt,
-  is-found-reads.Asked,
-  is-found-reads.Learnt,
+  first-place-reads.Asked,
+  first-place-reads.Learnt,
   join-asked-reads.Asked,
   join-asked-reads.Learnt,
 )
@@ -142,29 +137,21 @@ forest-corners-shared-slice-read-is-foreign t c = omega (arith, c .before .befor
 forest-corners-is-foreign-requires : (t : ℕ) → forest-corners-lts.Need-is-foreign-requires (forest-claims t) (forest-corners-at t) forest-corners.Post forest-corners-Inv-loop forest-corners-μ-loop
 forest-corners-is-foreign-requires t c κs = search needs
 
-forest-corners-write-log-requires : (t : ℕ) → forest-corners-lts.Need-write-log-requires (forest-claims t) (forest-corners-at t) forest-corners.Post forest-corners-Inv-loop forest-corners-μ-loop
-forest-corners-write-log-requires t c κs =
-    let turn = c .before .before .before .before .before .before .before .before in
-    let start = turn .before .before .before .before .before .before in
-    let inside = c .before .before .before .before .before .before .before .loop-test .taken in
-    let low : turn .loop .at ≤ listingRows = omega (arith, inside, start .pre .1 .0 .0 .few) in
-    (omega (arith, inside, start .pre .1 .0 .0 .few), omega arith, turn .loop .inv .so low .kept .size)
-
 forest-corners-add-at : (t : ℕ) → forest-corners-lts.Need-add-at (forest-claims t) (forest-corners-at t) forest-corners.Post forest-corners-Inv-loop forest-corners-μ-loop
-forest-corners-add-at t c = omega (arith, c .before .before .before .before .before .before .before .before .loop-test .taken)
+forest-corners-add-at t c = omega (arith, c .before .before .before .before .before .before .loop-test .taken)
 
 forest-corners-loop-less : (t : ℕ) → forest-corners-lts.Need-loop-less (forest-claims t) (forest-corners-at t) forest-corners.Post forest-corners-Inv-loop forest-corners-μ-loop
-forest-corners-loop-less t c = omega (arith, c .before .before .before .before .before .before .before .before .loop-test .taken)
+forest-corners-loop-less t c = omega (arith, c .before .before .before .before .before .before .loop-test .taken)
 
 forest-corners-loop-again : (t : ℕ) → forest-corners-lts.Need-loop-again (forest-claims t) (forest-corners-at t) forest-corners.Post forest-corners-Inv-loop forest-corners-μ-loop
 forest-corners-loop-again t c =
-    let turn = c .before .before .before .before .before .before .before .before .before in
+    let turn = c .before .before .before .before .before .before .before in
     let start = turn .before .before .before .before .before .before in
     let a = start .args in
     let cleared = turn .before .clear in
-    let inside = c .before .before .before .before .before .before .before .before .loop-test .taken in
+    let inside = c .before .before .before .before .before .before .loop-test .taken in
     let low : turn .loop .at ≤ listingRows = omega (arith, inside, start .pre .1 .0 .0 .few) in
-    rw (add-one (turn .loop .at)) (turn-struck (a .shape .now) (a .labels .now) (a .depths .now) (a .names .now) (start .pre .1 .0 .0) (a .asked .now) (a .room .now) (a .log .now) (a .base) (a .q) (a .k) (a .first) (start .pre .1 .1 .0) (start .pre .1 .0 .1) (start .pre .1 .0 .2) (start .pre .1 .1 .1) (cleared .last .0) (cleared .ensures) (turn .loop .asked) (turn .loop .room) (turn .loop .log) (turn .loop .at) (turn .loop .inv) low (omega (arith, inside)) (omega (arith, c .before .before .before .before .before .if1 .left)) (c .before .before .before .is-foreign .ensures .0 (c .before .before .if2 .taken)) (c .write-log .last .0) (c .write-log .ensures))
+    rw (add-one (turn .loop .at)) (turn-struck (a .shape .now) (a .labels .now) (a .depths .now) (a .names .now) (start .pre .1 .0 .0) (a .asked .now) (a .room .now) (a .log .now) (a .base) (a .q) (a .k) (a .first) (start .pre .1 .1 .0) (start .pre .1 .0 .1) (start .pre .1 .0 .2) (start .pre .1 .1 .1) (cleared .last .0) (cleared .ensures) (turn .loop .asked) (turn .loop .room) (turn .loop .log) (turn .loop .at) (turn .loop .inv) low (omega (arith, inside)) (omega (arith, c .before .before .before .if1 .left)) (c .before .is-foreign .ensures .0 (c .if2 .taken)))
 
 forest-corners-tree-corners-requires : (t : ℕ) → forest-corners-lts.Need-tree-corners-requires (forest-claims t) (forest-corners-at t) forest-corners.Post forest-corners-Inv-loop forest-corners-μ-loop
 forest-corners-tree-corners-requires t c κs =
@@ -232,13 +219,10 @@ tree-corners-bare-end-requires t c κs =
     let start = c .before .before .before in
     (start .pre .1 .0 .1, start .pre .1 .0 .0 .names)
 
-tree-corners-write-none-requires : (t : ℕ) → tree-corners-lts.Need-write-none-requires (tree-claims t) (tree-corners-at t) tree-corners.Post
-tree-corners-write-none-requires t c κs =
+tree-corners-write-log-requires : (t : ℕ) → tree-corners-lts.Need-write-log-requires (tree-claims t) (tree-corners-at t) tree-corners.Post
+tree-corners-write-log-requires t c κs =
     let start = c .before .before .before .before .before .before in
-    let a = start .args in
-    let e = c .before .before .bare-end .ensures .last (bare-rows t (c .before)) in
-    let l = last-fits (a .depths .now) (suc (a .first)) (omega (arith, start .pre .1 .0 .1)) in
-    (omega (arith, e), omega (arith, e, l, start .pre .1 .0 .0 .few), start .pre .1 .1 .0 .1)
+    (omega (arith, start .pre .1 .0 .1, start .pre .1 .0 .0 .few), omega arith, start .pre .1 .1 .0 .1)
 
 tree-corners-mul-join-leaf : (t : ℕ) → tree-corners-lts.Need-mul-join-leaf (tree-claims t) (tree-corners-at t) tree-corners.Post
 tree-corners-mul-join-leaf t c =
@@ -268,7 +252,7 @@ tree-corners-returns t c =
     let start = c .before .before .before .before .before .before .before .before .before .before .before in
     let a = start .args in
     let bare = c .before .before .before .before .before .before .before .bare-end in
-    let note = c .before .before .before .before .write-none in
+    let note = c .before .before .before .before .write-log in
     bare-through (a .shape .now) (a .labels .now) (a .depths .now) (a .names .now) (start .pre .1 .0 .0) (a .asked .now) (a .room .now) (a .log .now) (a .base) (a .q) (a .k) (a .first) (start .pre .1 .1 .0 .0) (start .pre .1 .0 .1) (start .pre .1 .0 .2) (start .pre .1 .1 .0 .1) (start .pre .1 .1 .1) (bare .result) (bare-rows t (c .before .before .before .before .before .before)) (bare .ensures) (note .last .0) (note .ensures) (c .join-leaf .last .1 .1 .1 .1 .0) (c .join-leaf .ensures)
 
 tree-corners-extend-requires : (t : ℕ) → tree-corners-lts.Need-extend-requires (tree-claims t) (tree-corners-at t) tree-corners.Post
@@ -289,8 +273,8 @@ tree-corners-idle-end-requires t c κs =
     let x = ext .extend .ensures in
     ((more-rows (a .depths .now) (start .pre .1 .0 .0 .listing .outline) (a .first) (start .pre .1 .0 .1) m, start .pre .1 .0 .0 .names), ((start .pre .1 .0 .0 .shape, omega (arith, z-few (a .shape .now) (a .labels .now) (a .depths .now) (a .names .now) (start .pre .1 .0 .0) (a .asked .now) (a .room .now) (a .base) (a .q) (a .first) (start .pre .1 .1 .0 .0) (start .pre .1 .0 .1) (start .pre .1 .1 .1) m us z x, start .pre .1 .0 .0 .shape .few)), λ i l. chains-more (a .shape .now) (a .labels .now) (a .depths .now) (a .names .now) (start .pre .1 .0 .0) (a .asked .now) (a .room .now) (a .base) (a .q) (a .first) (start .pre .1 .1 .0 .0) (start .pre .1 .0 .1) (start .pre .1 .1 .1) m us z x .rows i l .1))
 
-tree-corners-write-none-requires-2 : (t : ℕ) → tree-corners-lts.Need-write-none-requires-2 (tree-claims t) (tree-corners-at t) tree-corners.Post
-tree-corners-write-none-requires-2 t c κs =
+tree-corners-write-none-requires : (t : ℕ) → tree-corners-lts.Need-write-none-requires (tree-claims t) (tree-corners-at t) tree-corners.Post
+tree-corners-write-none-requires t c κs =
     let start = c .before .before .before .before .before .before .before .before .before .before .before .before in
     let a = start .args in
     let e = c .before .before .idle-end .ensures .last (omega (arith, c .before .if2 .taken)) in
@@ -308,7 +292,7 @@ tree-corners-returns-2 t c =
     let z = ext .extend .result in
     let x = ext .extend .ensures in
     let idle = c .before .before .before .idle-end in
-    idle-through (a .shape .now) (a .labels .now) (a .depths .now) (a .names .now) (start .pre .1 .0 .0) (a .asked .now) (a .room .now) (a .log .now) (a .base) (a .q) (a .k) (a .first) (start .pre .1 .1 .0 .0) (start .pre .1 .0 .1) (start .pre .1 .0 .2) (start .pre .1 .1 .0 .1) (start .pre .1 .1 .1) m us z x (idle .result) (omega (arith, c .before .before .if2 .taken)) (idle .ensures) (c .write-none2 .last .0) (c .write-none2 .ensures)
+    idle-through (a .shape .now) (a .labels .now) (a .depths .now) (a .names .now) (start .pre .1 .0 .0) (a .asked .now) (a .room .now) (a .log .now) (a .base) (a .q) (a .k) (a .first) (start .pre .1 .1 .0 .0) (start .pre .1 .0 .1) (start .pre .1 .0 .2) (start .pre .1 .1 .0 .1) (start .pre .1 .1 .1) m us z x (idle .result) (omega (arith, c .before .before .if2 .taken)) (idle .ensures) (c .write-none .last .0) (c .write-none .ensures)
 
 tree-corners-add-forest-corners : (t : ℕ) → tree-corners-lts.Need-add-forest-corners (tree-claims t) (tree-corners-at t) tree-corners.Post
 tree-corners-add-forest-corners t c =
@@ -379,14 +363,14 @@ tree-corners-close-asked-requires t c κs =
     let p = through t (c .before .before .before) in
     (start .pre .1 .0 .0 .shape, ((z-room (a .shape .now) (a .labels .now) (a .depths .now) (a .names .now) (start .pre .1 .0 .0) (a .asked .now) (a .room .now) (a .base) (a .q) (a .first) (start .pre .1 .1 .0 .0) (start .pre .1 .0 .1) (start .pre .1 .1 .1) m us z x, p .1 .ends .words, omega (arith, z-few (a .shape .now) (a .labels .now) (a .depths .now) (a .names .now) (start .pre .1 .0 .0) (a .asked .now) (a .room .now) (a .base) (a .q) (a .first) (start .pre .1 .1 .0 .0) (start .pre .1 .0 .1) (start .pre .1 .1 .1) m us z x, start .pre .1 .0 .0 .shape .few)), close-fits (a .shape .now) (a .labels .now) (a .depths .now) (a .names .now) (start .pre .1 .0 .0) (a .asked .now) (a .room .now) (a .base) (a .q) (a .first) (start .pre .1 .1 .0 .0) (start .pre .1 .0 .1) (start .pre .1 .1 .1) m us z x vs rs₁ (p .1 .ends)))
 
-tree-corners-add-first-level : (t : ℕ) → tree-corners-lts.Need-add-first-level (tree-claims t) (tree-corners-at t) tree-corners.Post
-tree-corners-add-first-level t c =
+tree-corners-add-first-place : (t : ℕ) → tree-corners-lts.Need-add-first-place (tree-claims t) (tree-corners-at t) tree-corners.Post
+tree-corners-add-first-place t c =
     let start = c .before .before .before .before .before .before .before .before .before .before .before .before .before .before .before .before .before .before .before .before .before .before in
     let a = start .args in
     omega (arith, level-room (a .shape .now) (a .labels .now) (a .depths .now) (a .names .now) (start .pre .1 .0 .0) (a .asked .now) (a .room .now) (a .base) (a .q) (a .first) (start .pre .1 .1 .0 .0) (start .pre .1 .0 .1))
 
-tree-corners-first-level-requires : (t : ℕ) → tree-corners-lts.Need-first-level-requires (tree-claims t) (tree-corners-at t) tree-corners.Post
-tree-corners-first-level-requires t c κs =
+tree-corners-first-place-requires : (t : ℕ) → tree-corners-lts.Need-first-place-requires (tree-claims t) (tree-corners-at t) tree-corners.Post
+tree-corners-first-place-requires t c κs =
     let ext = c .before .before .before .before .before .before .before .before .before .before .before .before .before .before in
     let els = ext .before .before .before in
     let start = els .before .before .before .before .before in
@@ -409,10 +393,10 @@ tree-corners-cast-write-log : (t : ℕ) → tree-corners-lts.Need-cast-write-log
 tree-corners-cast-write-log t c =
     let start = c .before .before .before .before .before .before .before .before .before .before .before .before .before .before .before .before .before .before .before .before .before .before .before .before in
     let a = start .args in
-    omega (arith, c .before .first-level .ensures .most, start .pre .1 .0 .2 .low)
+    omega (arith, place-most (c .before .first-place .ensures))
 
-tree-corners-write-log-requires : (t : ℕ) → tree-corners-lts.Need-write-log-requires (tree-claims t) (tree-corners-at t) tree-corners.Post
-tree-corners-write-log-requires t c κs =
+tree-corners-write-log-requires-2 : (t : ℕ) → tree-corners-lts.Need-write-log-requires-2 (tree-claims t) (tree-corners-at t) tree-corners.Post
+tree-corners-write-log-requires-2 t c κs =
     let ext = c .before .before .before .before .before .before .before .before .before .before .before .before .before .before .before .before in
     let els = ext .before .before .before in
     let start = els .before .before .before .before .before in
@@ -426,26 +410,23 @@ tree-corners-write-log-requires t c κs =
     let rs₁ = call .last .1 .1 .1 .1 .1 .0 in
     let ms₁ = call .last .1 .1 .1 .1 .1 .1 .0 in
     let p = through t (c .before .before .before .before .before .before .before .before) in
-    (omega (arith, start .pre .1 .0 .1, start .pre .1 .0 .0 .few), omega (arith, c .before .first-level .ensures .most, start .pre .1 .0 .2 .low), p .1 .kept .size)
-
-tree-corners-is-found-requires : (t : ℕ) → tree-corners-lts.Need-is-found-requires (tree-claims t) (tree-corners-at t) tree-corners.Post
-tree-corners-is-found-requires t c κs = search needs
+    (omega (arith, start .pre .1 .0 .1, start .pre .1 .0 .0 .few), omega (arith, place-most (c .before .first-place .ensures)), p .1 .kept .size)
 
 tree-corners-add-result : (t : ℕ) → tree-corners-lts.Need-add-result (tree-claims t) (tree-corners-at t) tree-corners.Post
 tree-corners-add-result t c =
-    let start = c .before .before .before .before .before .before .before .before .before .before .before .before .before .before .before .before .before .before .before .before .before .before .before .before .before .before .before in
+    let start = c .before .before .before .before .before .before .before .before .before .before .before .before .before .before .before .before .before .before .before .before .before .before .before .before .before .before in
     let a = start .args in
     omega (arith, start .pre .1 .0 .1, start .pre .1 .0 .0 .few)
 
 tree-corners-add-result-2 : (t : ℕ) → tree-corners-lts.Need-add-result-2 (tree-claims t) (tree-corners-at t) tree-corners.Post
 tree-corners-add-result-2 t c =
-    let start = c .before .before .before .before .before .before .before .before .before .before .before .before .before .before .before .before .before .before .before .before .before .before .before .before .before .before .before in
+    let start = c .before .before .before .before .before .before .before .before .before .before .before .before .before .before .before .before .before .before .before .before .before .before .before .before .before .before in
     let a = start .args in
     omega (arith, start .pre .1 .0 .1, start .pre .1 .0 .0 .few)
 
 tree-corners-returns-4 : (t : ℕ) → tree-corners-lts.Need-returns-4 (tree-claims t) (tree-corners-at t) tree-corners.Post
 tree-corners-returns-4 t c =
-    let ext = c .before .before .before .before .before .before .before .before .before .before .before .before .before .before .before .before .before .before .before in
+    let ext = c .before .before .before .before .before .before .before .before .before .before .before .before .before .before .before .before .before .before in
     let els = ext .before .before .before in
     let start = els .before .before .before .before .before in
     let a = start .args in
@@ -453,20 +434,38 @@ tree-corners-returns-4 t c =
     let us = ext .extend .last .1 .0 in
     let z = ext .extend .result in
     let x = ext .extend .ensures in
-    let call = c .before .before .before .before .before .before .before .before .before .before .before .before .forest-corners in
+    let call = c .before .before .before .before .before .before .before .before .before .before .before .forest-corners in
     let vs = call .last .1 .1 .1 .1 .0 in
     let rs₁ = call .last .1 .1 .1 .1 .1 .0 in
     let ms₁ = call .last .1 .1 .1 .1 .1 .1 .0 in
-    let p = through t (c .before .before .before .before .before .before .before .before .before .before .before) in
-    let rs₂ = c .before .before .before .before .before .before .before .close-asked .last .1 .1 .1 .1 .0 in
-    let w = c .before .before .before .before .before .before .before .close-asked .ensures in
-    let held = c .before .before .before .before .first-level in
-    let note = c .before .before .write-log in
-    let e = c .before .is-found .ensures .0 (c .if4 .taken) in
-    tree-found (a .shape .now) (a .labels .now) (a .depths .now) (a .names .now) (start .pre .1 .0 .0) (a .asked .now) (a .room .now) (a .log .now) (a .base) (a .q) (a .k) (a .first) (start .pre .1 .1 .0 .0) (start .pre .1 .0 .1) (start .pre .1 .0 .2) (start .pre .1 .1 .0 .1) (start .pre .1 .1 .1) m us z x vs rs₁ ms₁ (p .1) rs₂ w (held .result) (held .ensures) (note .last .0) (note .ensures) (e .0) (e .1) _ (omega arith)
+    let p = through t (c .before .before .before .before .before .before .before .before .before .before) in
+    let rs₂ = c .before .before .before .before .before .before .close-asked .last .1 .1 .1 .1 .0 in
+    let w = c .before .before .before .before .before .before .close-asked .ensures in
+    let place = c .before .before .before .first-place in
+    let note = c .before .write-log2 in
+    tree-found (a .shape .now) (a .labels .now) (a .depths .now) (a .names .now) (start .pre .1 .0 .0) (a .asked .now) (a .room .now) (a .log .now) (a .base) (a .q) (a .k) (a .first) (start .pre .1 .1 .0 .0) (start .pre .1 .0 .1) (start .pre .1 .0 .2) (start .pre .1 .1 .0 .1) (start .pre .1 .1 .1) m us z x vs rs₁ ms₁ (p .1) rs₂ w (place .result) (place .ensures) (note .last .0) (note .ensures) (c .if4 .taken) _ (omega arith)
 
 tree-corners-join-asked-requires : (t : ℕ) → tree-corners-lts.Need-join-asked-requires (tree-claims t) (tree-corners-at t) tree-corners.Post
 tree-corners-join-asked-requires t c κs =
+    let ext = c .before .before .before .before .before .before .before .before .before .before .before .before .before .before .before .before .before .before .before .before in
+    let els = ext .before .before .before in
+    let start = els .before .before .before .before .before in
+    let a = start .args in
+    let m = some-rows t els in
+    let us = ext .extend .last .1 .0 in
+    let z = ext .extend .result in
+    let x = ext .extend .ensures in
+    let call = c .before .before .before .before .before .before .before .before .before .before .before .before .before .forest-corners in
+    let vs = call .last .1 .1 .1 .1 .0 in
+    let rs₁ = call .last .1 .1 .1 .1 .1 .0 in
+    let ms₁ = call .last .1 .1 .1 .1 .1 .1 .0 in
+    let p = through t (c .before .before .before .before .before .before .before .before .before .before .before .before) in
+    let rs₂ = c .before .before .before .before .before .before .before .before .close-asked .last .1 .1 .1 .1 .0 in
+    let w = c .before .before .before .before .before .before .before .before .close-asked .ensures in
+    (start .pre .1 .0 .0 .shape, ((x .least, z-room (a .shape .now) (a .labels .now) (a .depths .now) (a .names .now) (start .pre .1 .0 .0) (a .asked .now) (a .room .now) (a .base) (a .q) (a .first) (start .pre .1 .1 .0 .0) (start .pre .1 .0 .1) (start .pre .1 .1 .1) m us z x, w .size ∙ p .1 .ends .words), tree-joins (a .shape .now) (a .labels .now) (a .depths .now) (a .names .now) (start .pre .1 .0 .0) (a .asked .now) (a .room .now) (a .base) (a .q) (a .first) (start .pre .1 .1 .0 .0) (start .pre .1 .0 .1) (start .pre .1 .1 .1) m us z x vs rs₁ (p .1 .ends) rs₂ w))
+
+tree-corners-returns-5 : (t : ℕ) → tree-corners-lts.Need-returns-5 (tree-claims t) (tree-corners-at t) tree-corners.Post
+tree-corners-returns-5 t c =
     let ext = c .before .before .before .before .before .before .before .before .before .before .before .before .before .before .before .before .before .before .before .before .before in
     let els = ext .before .before .before in
     let start = els .before .before .before .before .before in
@@ -482,29 +481,9 @@ tree-corners-join-asked-requires t c κs =
     let p = through t (c .before .before .before .before .before .before .before .before .before .before .before .before .before) in
     let rs₂ = c .before .before .before .before .before .before .before .before .before .close-asked .last .1 .1 .1 .1 .0 in
     let w = c .before .before .before .before .before .before .before .before .before .close-asked .ensures in
-    (start .pre .1 .0 .0 .shape, ((x .least, z-room (a .shape .now) (a .labels .now) (a .depths .now) (a .names .now) (start .pre .1 .0 .0) (a .asked .now) (a .room .now) (a .base) (a .q) (a .first) (start .pre .1 .1 .0 .0) (start .pre .1 .0 .1) (start .pre .1 .1 .1) m us z x, w .size ∙ p .1 .ends .words), tree-joins (a .shape .now) (a .labels .now) (a .depths .now) (a .names .now) (start .pre .1 .0 .0) (a .asked .now) (a .room .now) (a .base) (a .q) (a .first) (start .pre .1 .1 .0 .0) (start .pre .1 .0 .1) (start .pre .1 .1 .1) m us z x vs rs₁ (p .1 .ends) rs₂ w))
-
-tree-corners-returns-5 : (t : ℕ) → tree-corners-lts.Need-returns-5 (tree-claims t) (tree-corners-at t) tree-corners.Post
-tree-corners-returns-5 t c =
-    let ext = c .before .before .before .before .before .before .before .before .before .before .before .before .before .before .before .before .before .before .before .before .before .before in
-    let els = ext .before .before .before in
-    let start = els .before .before .before .before .before in
-    let a = start .args in
-    let m = some-rows t els in
-    let us = ext .extend .last .1 .0 in
-    let z = ext .extend .result in
-    let x = ext .extend .ensures in
-    let call = c .before .before .before .before .before .before .before .before .before .before .before .before .before .before .before .forest-corners in
-    let vs = call .last .1 .1 .1 .1 .0 in
-    let rs₁ = call .last .1 .1 .1 .1 .1 .0 in
-    let ms₁ = call .last .1 .1 .1 .1 .1 .1 .0 in
-    let p = through t (c .before .before .before .before .before .before .before .before .before .before .before .before .before .before) in
-    let rs₂ = c .before .before .before .before .before .before .before .before .before .before .close-asked .last .1 .1 .1 .1 .0 in
-    let w = c .before .before .before .before .before .before .before .before .before .before .close-asked .ensures in
-    let held = c .before .before .before .before .before .before .before .first-level in
-    let note = c .before .before .before .before .before .write-log in
-    let test = c .before .before .before .before .is-found in
-    tree-through (a .shape .now) (a .labels .now) (a .depths .now) (a .names .now) (start .pre .1 .0 .0) (a .asked .now) (a .room .now) (a .log .now) (a .base) (a .q) (a .k) (a .first) (start .pre .1 .1 .0 .0) (start .pre .1 .0 .1) (start .pre .1 .0 .2) (start .pre .1 .1 .0 .1) (start .pre .1 .1 .1) m us z x vs rs₁ ms₁ (p .1) rs₂ w (held .result) (held .ensures) (note .last .0) (note .ensures) (λ e o. true≢false (sym (test .ensures .1 (e, o)) ∙ c .before .before .before .if4 .left)) (call .result) (p .0) (c .join-asked .last .1 .1 .1 .0) (c .join-asked .ensures)
+    let place = c .before .before .before .before .before .before .first-place in
+    let note = c .before .before .before .before .write-log2 in
+    tree-through (a .shape .now) (a .labels .now) (a .depths .now) (a .names .now) (start .pre .1 .0 .0) (a .asked .now) (a .room .now) (a .log .now) (a .base) (a .q) (a .k) (a .first) (start .pre .1 .1 .0 .0) (start .pre .1 .0 .1) (start .pre .1 .0 .2) (start .pre .1 .1 .0 .1) (start .pre .1 .1 .1) m us z x vs rs₁ ms₁ (p .1) rs₂ w (place .result) (place .ensures) (note .last .0) (note .ensures) (c .before .before .before .if4 .left) (call .result) (p .0) (c .join-asked .last .1 .1 .1 .0) (c .join-asked .ensures)
 
 pub +forest-corners+tree-corners-spec : {M : Type 1} → statement M
 +forest-corners+tree-corners-spec =
@@ -523,7 +502,6 @@ pub +forest-corners+tree-corners-spec : {M : Type 1} → statement M
     (forest-corners-mul-is-foreign t)
     (forest-corners-shared-slice-read-is-foreign t)
     (forest-corners-is-foreign-requires t)
-    (forest-corners-write-log-requires t)
     (forest-corners-add-at t)
     (forest-corners-loop-less t)
     (forest-corners-loop-again t)
@@ -535,14 +513,14 @@ pub +forest-corners+tree-corners-spec : {M : Type 1} → statement M
     (tree-corners-at t)
     tree-corners.Post
     (tree-corners-bare-end-requires t)
-    (tree-corners-write-none-requires t)
+    (tree-corners-write-log-requires t)
     (tree-corners-mul-join-leaf t)
     (tree-corners-shared-slice-read-join-leaf t)
     (tree-corners-join-leaf-requires t)
     (tree-corners-returns t)
     (tree-corners-extend-requires t)
     (tree-corners-idle-end-requires t)
-    (tree-corners-write-none-requires-2 t)
+    (tree-corners-write-none-requires t)
     (tree-corners-returns-2 t)
     (tree-corners-add-forest-corners t)
     (tree-corners-add-forest-corners-2 t)
@@ -552,11 +530,10 @@ pub +forest-corners+tree-corners-spec : {M : Type 1} → statement M
     (tree-corners-shared-slice-read-close-asked t)
     (tree-corners-add-close-asked t)
     (tree-corners-close-asked-requires t)
-    (tree-corners-add-first-level t)
-    (tree-corners-first-level-requires t)
+    (tree-corners-add-first-place t)
+    (tree-corners-first-place-requires t)
     (tree-corners-cast-write-log t)
-    (tree-corners-write-log-requires t)
-    (tree-corners-is-found-requires t)
+    (tree-corners-write-log-requires-2 t)
     (tree-corners-add-result t)
     (tree-corners-add-result-2 t)
     (tree-corners-returns-4 t)

@@ -38,11 +38,14 @@ place-known-requires c κs =
     let g = start .pre .1 .0 in
     let words = start .pre .1 .1 .1 in
     let cleared = c .before .before .before .clear-marks in
-    (low (a .known) _ (λ o. omega (arith, words .3 o .high, k .few)), omega (arith, g, cleared .ensures .size))
+    let known = words .3 in (
+      (rw e at (k .shape), rw e at (k .outline), λ o. (rw e at (known .path o)) .inner 0 (omega arith)),
+      (low (a .known) _ (λ o. omega (arith, known .first o .high, k .few)), g .0, omega (arith, g, cleared .ensures .size)),
+    )
 
 -- the map when the loop begins
 begun : (c : tie.After-place-known Inv-loop μ-loop) → let start = c .before .before .before .before .before .before .before .before .before .before .before in let a = start .args in
-    Stage (SameLabel (a .labels .now) (a .names .now)) (a .recipe .now) (a .depths .now) (a .map .now) (a .asked .now) (a .room .now) (a .log .now) (c .place-known .last .1 .0) (c .place-known .result)
+    Stage (SameLabel (a .labels .now) (a .names .now)) (a .recipe .now) (a .depths .now) (a .map .now) (a .asked .now) (a .room .now) (a .log .now) (c .place-known .last .1 .1 .1 .0) (c .place-known .result)
 begun c =
     let start = c .before .before .before .before .before .before .before .before .before .before .before in
     let a = start .args in
@@ -51,7 +54,7 @@ begun c =
     let g = start .pre .1 .0 in
     let words = start .pre .1 .1 .1 in
     let cleared = c .before .before .before .before .clear-marks in
-    stage-begun _ (a .recipe .now) (a .depths .now) (rw e at (k .outline)) (k .listing .outline) (start .pre .1 .1 .0) (a .map .now) (cleared .last .1 .0) (cleared .ensures) (g .0) (g .1) (a .asked .now) (a .room .now) (a .log .now) (words .0, words .1, words .2) (a .known) _ _ (c .place-known .ensures) (λ o. rw e at (words .3 o))
+    stage-begun _ (a .recipe .now) (a .depths .now) (rw e at (k .outline)) (k .listing .outline) (start .pre .1 .1 .0) (a .map .now) (cleared .last .1 .0) (cleared .ensures) (g .0) (g .1) (a .asked .now) (a .room .now) (a .log .now) (words .0, words .1, words .2) (a .known) _ _ (c .place-known .ensures) (λ o. rw e at (words .3 .first o)) (λ o. rw e at (words .3 .path o)) (λ o. rw e at (words .3 .told o))
 
 loop-holds : tie.Need-loop-holds Inv-loop μ-loop
 loop-holds c = stage-here _ _ _ _ _ _ _ _ _ (begun (c .before .before))
