@@ -122,8 +122,9 @@ static int tree_corners(int base, int q, int k, int first)
     if (bare) {
         if (k) logged[first] = PATH;
         for (int i = 0; i < q; i++) {
-            u16 a = room[base + i], y = right[a], w = a ? y ? close_row(name, y, 0) : 0 : close_row(name, asked[i], 0);
-            if (!a || (w && deep[w] == deep[a])) room[base + i] = w;
+            u16 a = room[base + i], y = right[a];
+            if (!a) room[base + i] = close_row(name, asked[i], 0);
+            else if (y && leaf[y] == y && rl[y - 1] == name) room[base + i] = y;
         }
         return bare;
     }

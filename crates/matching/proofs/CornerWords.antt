@@ -4,7 +4,7 @@ use mathlib.Core.Bool.{Bool, true, false}
 use mathlib.Core.List.{List}
 use Prim.Native.Nat.{ℕ, _≤_, _<_}
 use native.Mathlib.Omega.{arith}
-use native.Mathlib.Decide.{decLt}
+use native.Mathlib.Decide.{decLt, decLe, ℕ-discrete}
 use lib.ListN.{length}
 use borrow.Author.Tests.{eq-eqb, ne-eqb}
 use Rattle.rows.specs.Rows.{at, depth}
@@ -12,8 +12,9 @@ use Rattle.matching.specs.Family.{parent, rightSibling, leftLeaf}
 use Rattle.matching.specs.CornerRow.{closeRow, joinRow, OnChain}
 use Rattle.matching.specs.Shape.{word, Shape}
 use Rattle.matching.specs.Room.{recipeOf, named, alone}
-use Rattle.matching.proofs.LeftLeaf.{leaf-within}
-use Rattle.matching.proofs.Level.{right-fits}
+use Rattle.matching.proofs.Chains.{leaf-least}
+use Rattle.matching.proofs.LeftLeaf.{leaf-within, leaf-deep}
+use Rattle.matching.proofs.Level.{right-fits, right-deep}
 use Rattle.matching.proofs.Siblings.{parent-within}
 use Rattle.matching.proofs.Width.{length-words}
 use Rattle.matching.proofs.CornerRow.{close-new, close-empty, close-top, close-wide, close-raise, close-other, join-empty, join-higher, join-wider, join-kept}
@@ -124,11 +125,14 @@ module _ (ws rl : List ℕ) (name : ℕ) where
     pub alone-none : a ≡ 0 → alone ws rl name x ≡ Joined
     alone-none h = sym (join-empty rd a _ _ h)
 
-    module _ (some : a ≡ 0 → ⊥) (w d : ℕ) (ew : w ≡ alone ws rl name (word 1 ws a)) (ed : d ≡ word 3 ws a) where
-      hw : w ≤ length rd
-      hw = omega (arith, alone-fits (word 1 ws a) after-fits)
+    module _ (some : a ≡ 0 → ⊥) (y : ℕ) (ey : y ≡ word 1 ws a) where
+      abbrev w : ℕ
+      w = alone ws rl name y
 
-      low : (1 ≤ alone ws rl name x) × (word 3 ws (alone ws rl name x) < d) → ⊥
+      hy : y ≤ length rd
+      hy = omega (arith, after-fits)
+
+      low : (1 ≤ alone ws rl name x) × (word 3 ws (alone ws rl name x) < word 3 ws a) → ⊥
       low h =
           omega (
             arith,
@@ -137,11 +141,52 @@ module _ (ws rl : List ℕ) (name : ℕ) where
             k .depths a (on .row),
           )
 
-      pub alone-wider : (1 ≤ w) × (word 3 ws w ≡ d) → w ≡ Joined
-      alone-wider h = words-wider rd ws k a (alone ws rl name x) w (on .row) (alone-fits x (on .asks)) hw some d ed low h ∙ ap (joinRow rd a (alone ws rl name x)) ew
+      kept : ((1 ≤ w) × (word 3 ws w ≡ word 3 ws a) → ⊥) → a ≡ Joined
+      kept h =
+          words-kept rd ws k a (alone ws rl name x) w (on .row) (alone-fits x (on .asks)) (alone-fits y hy) some (word 3 ws a) refl low h
+          ∙ ap (λ (z : ℕ). joinRow rd a (alone ws rl name x) (alone ws rl name z)) ey
 
-      pub alone-kept : ((1 ≤ w) × (word 3 ws w ≡ d) → ⊥) → a ≡ Joined
-      alone-kept h = words-kept rd ws k a (alone ws rl name x) w (on .row) (alone-fits x (on .asks)) hw some d ed low h ∙ ap (joinRow rd a (alone ws rl name x)) ew
+      -- there is no chain after the corner's
+      pub alone-last : y ≡ 0 → a ≡ Joined
+      alone-last e = kept (λ h. alone-case (λ b. 1 ≤ b → ⊥) y (λ o. omega arith) (λ o. omega (arith, ap (leftLeaf rd) e)) (h .0))
+
+      -- it begins with a row that has rows below it
+      pub alone-deeper : (word 2 ws y ≡ y → ⊥) → a ≡ Joined
+      alone-deeper n = kept (λ h. alone-case (λ b. 1 ≤ b → word 3 ws b ≡ word 3 ws a → ⊥) y (λ o q. omega arith) (λ o q. deeper (decLe 1 y) q) (h .0) (h .1))
+        where
+          deeper : Dec (1 ≤ y) → word 3 ws (leftLeaf rd y) ≡ word 3 ws a → ⊥
+          deeper (no o) q = n (k .leaves y hy ∙ (let z : y ≡ 0 = omega arith in rw z))
+          deeper (yes o) q =
+              omega (
+                arith,
+                q,
+                leaf-deep rd y (behind (leaf-least rd y) (ℕ-discrete (leftLeaf rd y) y)),
+                k .depths (leftLeaf rd y) (leaf-within rd y hy),
+                k .depths a (on .row),
+                right-deep rd a (omega arith, on .row) (omega (arith, k .rights a (on .row))),
+                ap (depth rd) (ey ∙ k .rights a (on .row)),
+              )
+            where
+              behind : y ≤ leftLeaf rd y → Dec (leftLeaf rd y ≡ y) → y < leftLeaf rd y
+              behind l (yes e) = absurd (n (k .leaves y hy ∙ e))
+              behind l (no e) = omega arith
+
+      -- it is a leaf
+      module _ (one : y ≡ 0 → ⊥) (is : word 2 ws y ≡ y) (l : ℕ) (el : l ≡ at rl y) where
+        itself : leftLeaf rd y ≡ y
+        itself = sym (k .leaves y hy) ∙ is
+
+        pub alone-gained : l ≡ name → y ≡ Joined
+        alone-gained h =
+            let e : w ≡ y = close-new (named rl) rd y name 0 refl (rw itself (named-same rl y l name el h)) ∙ itself in
+            let d = right-deep rd a (omega arith, on .row) (omega (arith, k .rights a (on .row))) in
+            let q : word 3 ws y ≡ word 3 ws a = k .depths y hy ∙ ap (depth rd) (ey ∙ k .rights a (on .row)) ∙ d ∙ sym (k .depths a (on .row)) in
+            words-wider rd ws k a (alone ws rl name x) y (on .row) (alone-fits x (on .asks)) hy some (word 3 ws a) refl low (omega arith, q)
+            ∙ ap (joinRow rd a (alone ws rl name x)) (sym e)
+            ∙ ap (λ (z : ℕ). joinRow rd a (alone ws rl name x) (alone ws rl name z)) ey
+
+        pub alone-missed : (l ≡ name → ⊥) → a ≡ Joined
+        alone-missed h = kept (λ g. omega (arith, g .0, close-empty (named rl) rd y name 0 refl (rw itself (named-other rl y l name el h))))
 
 -- the rows whose labels are read, a left-most leaf and a parent, have labels
 module _ (ws rl : List ℕ) (k : Shape (recipeOf ws rl) ws) (x : ℕ) (h : x ≤ length (recipeOf ws rl)) where

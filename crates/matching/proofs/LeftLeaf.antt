@@ -1,14 +1,14 @@
 -- The left-most leaf of a row: that of the next row if it is deeper, else the row itself. Assumes nothing.
-use mathlib.Core.Path.{_≡_}
+use mathlib.Core.Path.{_≡_, ap}
 use mathlib.Core.Bool.{Bool, true, false}
 use mathlib.Core.List.{List, [], _∷_}
-use Prim.Native.Nat.{ℕ, zero, suc, _+_, _≤_, _<_}
+use Prim.Native.Nat.{ℕ, zero, suc, _+_, _-_, _≤_, _<_}
 use native.Mathlib.Numerals.{add-one}
 use native.Mathlib.Omega.{arith}
-use native.Mathlib.Decide.{decLt}
+use native.Mathlib.Decide.{decLt, ℕ-discrete}
 use lib.Dec.{eqb}
 use lib.ListN.{length, getD, drop, length-drop, drop-of-length-le}
-use lib.Seq.{drop-cons}
+use lib.Seq.{drop-cons, getD-drop}
 use borrow.Author.Tests.{eq-eqb, ne-eqb}
 use Rattle.rows.specs.Rows.{depth, Outline}
 use Rattle.rows.proofs.AtLaws.{at-none}
@@ -65,3 +65,22 @@ descent-fits d (e ∷ es) = go (eqb e d) (descent-fits (suc d) es)
 pub leaf-within : (ds : List ℕ) (v : ℕ) → v ≤ length ds → leftLeaf ds v ≤ length ds
 leaf-within ds zero h = omega arith
 leaf-within ds (suc i) h = omega (arith, descent-fits (suc (depth ds (suc i))) (drop (suc i) ds), length-drop (suc i) ds)
+
+-- where it is another row, it is deeper
+descent-deep : (d : ℕ) (es : List ℕ) (n : ℕ) → n < descent d es → getD es n 0 ≡ d + n
+descent-deep d [] n h = absurd (omega arith)
+descent-deep d (e ∷ es) n h = go (ℕ-discrete e d) n h (descent-deep (suc d) es)
+  where
+    go : Dec (e ≡ d) → (n : ℕ) → n < descent d (e ∷ es) → ((n : ℕ) → n < descent (suc d) es → getD es n 0 ≡ suc d + n) → getD (e ∷ es) n 0 ≡ d + n
+    go (yes q) zero h ih = omega arith
+    go (yes q) (suc n) h ih =
+        let o : suc n < suc (descent (suc d) es) = rw (eq-eqb e d q, descent) at h in omega (arith, ih n (omega arith))
+    go (no q) n h ih = let o : n < 0 = rw (ne-eqb e d q, descent) at h in absurd (omega arith)
+
+pub leaf-deep : (ds : List ℕ) (v : ℕ) → v < leftLeaf ds v → depth ds v < depth ds (leftLeaf ds v)
+leaf-deep ds zero h = absurd (omega arith)
+leaf-deep ds (suc i) h =
+    let n = descent (suc (depth ds (suc i))) (drop (suc i) ds) in
+    let e : suc i + n ≡ suc (suc i + (n - 1)) = omega arith in
+    let q = descent-deep (suc (depth ds (suc i))) (drop (suc i) ds) (n - 1) (omega arith) in
+    omega (arith, q, ap (depth ds) e, getD-drop (suc i) ds (n - 1) 0)

@@ -100,13 +100,14 @@ pub data FirstPlace (ws asked rs : List ℕ) (base k r : ℕ) : Type 0 where
       → r ≡ min 15 (word 3 ws (getD rs (base + i) 0) - word 3 ws (chain asked 0)) → FirstPlace ws asked rs base k r
   none : ((j : ℕ) → j < k → Met ws asked k j (getD rs (base + j) 0) → ⊥) → r ≡ 15 → FirstPlace ws asked rs base k r
 
--- slot c of the map m is as before in m′, or row c stands on the path behind its first row, and has got its place as a mark, as the rows of the
--- path above it have. All places are below `end`
+-- slot c of the map m is as before in m′, or row c stands on the path behind its first row and has got its place as a mark, and so have the rows
+-- of the path between. The place is below `end`
 pub data Slot (rd asked : List ℕ) (k end : ℕ) (m m′ : List ℕ) (c : ℕ) : Type 0 where
   stays : at m′ c ≡ at m c → Slot rd asked k end m m′ c
   marked : (i : ℕ) → 1 ≤ i → i < end → OnPath rd asked k i c → at m′ c ≡ i → (chain asked 0 < parent rd c → 1 ≤ at m′ (parent rd c))
       → Slot rd asked k end m m′ c
 
+-- so it is of all slots of the map; those behind the recipe's rows stayed
 pub record Marks (rd asked : List ℕ) (k end : ℕ) (m m′ : List ℕ) : Type 0 where
   pub size : length m′ ≡ length m
   pub rest : drop (length rd) m′ ≡ drop (length rd) m

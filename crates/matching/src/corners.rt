@@ -8,12 +8,11 @@ ghost use Rattle.rows.specs.Rows.{depth, lastRow};
 ghost use Rattle.rows.specs.Forest.{size, forestAt};
 ghost use Rattle.matching.specs.CornerRow.{OnChain};
 ghost use Rattle.matching.specs.Shape.{Shape, word};
-ghost use Rattle.matching.specs.Asked.{chain, noted};
+ghost use Rattle.matching.specs.Asked.{chain};
 ghost use Rattle.matching.specs.Path.{logBytes, Met, FirstPlace};
 ghost use Rattle.matching.specs.Engine.{Ready, Begins, Sought, Passed, Bare, cornerOf, withTree};
-ghost use Rattle.matching.specs.Room.{roomWords, recipeOf, following, Written, closed, joined, joinedAlone, Joins};
+ghost use Rattle.matching.specs.Room.{roomWords, recipeOf, Written, closed, joined, joinedAlone, Joins};
 use crate::asked::extend;
-use crate::asked::wide;
 use crate::idle::idle_end;
 use crate::joining::close_row;
 use crate::joining::join_alone;
@@ -22,7 +21,6 @@ use crate::log::write_log;
 use crate::log::write_none;
 use crate::shape::depth_of;
 use crate::shape::is_foreign;
-use crate::shape::right_of;
 
 // No corners yet: the q words of the room from base on become 0.
 fn clear(room: &mut [u16; 14592], base: usize, q: usize)
@@ -58,25 +56,6 @@ fn close_asked(
     }
 }
 
-// The tree's corner on the chain after a, which the room keeps from base on; 0 where there is no such chain.
-fn corner_after(
-    shape: &[u16; 1156],
-    asked: &[u16; 513],
-    room: &[u16; 14592],
-    base: usize,
-    a: u16,
-) -> u16
-    requires { ⌜ (a ≤ 256) × (word 1 (now shape) a ≤ 256) × (1 ≤ word 1 (now shape) a → base + noted (now asked) (word 1 (now shape) a) < roomWords) ⌝ }
-    ensures { λ r. ⌜ r ≡ following (now (shape .entry)) (now (asked .entry)) (now (room .entry)) base a ⌝ }
-{
-    let y = right_of(shape, a);
-    if y == 0 {
-        return 0;
-    }
-    let place = wide(asked[256 + (y as usize)]);
-    room[base + place]
-}
-
 // Joins the tree whose corners on the chains asked stand behind the q corners from base on.
 fn join_asked(
     shape: &[u16; 1156],
@@ -95,8 +74,8 @@ fn join_asked(
     let mut i = 0;
     while i < q {
         let a = room[base + i];
-        let w = corner_after(shape, asked, room, base + q, a);
-        room[base + i] = join_row(shape, labels, a, room[base + q + i], w);
+        let b = room[base + q + i];
+        room[base + i] = join_row(shape, labels, asked, room, base + q, a, b);
         i += 1;
     }
 }

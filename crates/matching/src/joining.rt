@@ -2,12 +2,14 @@
 ghost use mathlib.Core.Path.{_≡_};
 ghost use mathlib.Core.Bool.{true};
 ghost use mathlib.Core.Logic.{_↔_};
-ghost use Prim.Native.Nat.{_≤_, _<_};
+ghost use Prim.Native.Nat.{_≤_, _<_, _+_};
 ghost use lib.ListN.{length};
 ghost use Rattle.rows.specs.Rows.{at};
 ghost use Rattle.matching.specs.CornerRow.{closeRow, joinRow, OnChain};
 ghost use Rattle.matching.specs.Shape.{Shape, word};
-ghost use Rattle.matching.specs.Room.{recipeOf, named, alone};
+ghost use Rattle.matching.specs.Asked.{noted};
+ghost use Rattle.matching.specs.Room.{roomWords, recipeOf, following, named, alone};
+use crate::asked::wide;
 use crate::shape::depth_of;
 use crate::shape::leaf_of;
 use crate::shape::parent_of;
@@ -72,11 +74,39 @@ pub(crate) fn is_level(shape: &[u16; 1156], w: u16, d: u16) -> bool
     depth_of(shape, w) == d
 }
 
-// Join a tree: a is the corner so far, b the tree's corner on the same chain, w the tree's corner on the chain after a.
-pub(crate) fn join_row(shape: &[u16; 1156], labels: &[u32], a: u16, b: u16, w: u16) -> u16
+// The tree's corner on the chain after a, which the room keeps from base on; 0 where there is no such chain.
+fn corner_after(
+    shape: &[u16; 1156],
+    asked: &[u16; 513],
+    room: &[u16; 14592],
+    base: usize,
+    a: u16,
+) -> u16
+    requires { ⌜ (a ≤ 256) × (word 1 (now shape) a ≤ 256) × (1 ≤ word 1 (now shape) a → base + noted (now asked) (word 1 (now shape) a) < roomWords) ⌝ }
+    ensures { λ r. ⌜ r ≡ following (now (shape .entry)) (now (asked .entry)) (now (room .entry)) base a ⌝ }
+{
+    let y = right_of(shape, a);
+    if y == 0 {
+        return 0;
+    }
+    let place = wide(asked[256 + (y as usize)]);
+    room[base + place]
+}
+
+// Join a tree, whose corners the room keeps from base on: a is the corner so far, b the tree's corner on the same chain.
+pub(crate) fn join_row(
+    shape: &[u16; 1156],
+    labels: &[u32],
+    asked: &[u16; 513],
+    room: &[u16; 14592],
+    base: usize,
+    a: u16,
+    b: u16,
+) -> u16
     requires { ⌜ Shape (recipeOf (now shape) (now labels)) (now shape) ⌝ }
-    requires { ⌜ (a ≤ length (recipeOf (now shape) (now labels))) × (b ≤ length (recipeOf (now shape) (now labels))) × (w ≤ length (recipeOf (now shape) (now labels))) ⌝ }
-    ensures { λ r. ⌜ r ≡ joinRow (recipeOf (now (shape .entry)) (now (labels .entry))) a b w ⌝ }
+    requires { ⌜ (a ≤ length (recipeOf (now shape) (now labels))) × (b ≤ length (recipeOf (now shape) (now labels))) × (following (now shape) (now asked) (now room) base a ≤ length (recipeOf (now shape) (now labels))) ⌝ }
+    requires { ⌜ (word 1 (now shape) a ≤ 256) × (1 ≤ word 1 (now shape) a → base + noted (now asked) (word 1 (now shape) a) < roomWords) ⌝ }
+    ensures { λ r. ⌜ r ≡ joinRow (recipeOf (now (shape .entry)) (now (labels .entry))) a b (following (now (shape .entry)) (now (asked .entry)) (now (room .entry)) base a) ⌝ }
 {
     if a == 0 {
         return b;
@@ -85,6 +115,7 @@ pub(crate) fn join_row(shape: &[u16; 1156], labels: &[u32], a: u16, b: u16, w: u
     if is_higher(shape, b, d) {
         return b;
     }
+    let w = corner_after(shape, asked, room, base, a);
     if is_level(shape, w, d) {
         return w;
     }
@@ -92,7 +123,7 @@ pub(crate) fn join_row(shape: &[u16; 1156], labels: &[u32], a: u16, b: u16, w: u
 }
 
 // How a listing row alone with the label name changes the corner a on chain x: the row's own corner, a left-most leaf, is never
-// higher than a, so where a is a row, only the next tree beside it can be gained.
+// higher than a, so where a is a row, only a leaf beside it can be gained.
 pub(crate) fn join_alone(shape: &[u16; 1156], labels: &[u32], name: u32, x: u16, a: u16) -> u16
     requires { ⌜ Shape (recipeOf (now shape) (now labels)) (now shape) ⌝ }
     requires { ⌜ OnChain (recipeOf (now shape) (now labels)) x a ⌝ }
@@ -101,9 +132,15 @@ pub(crate) fn join_alone(shape: &[u16; 1156], labels: &[u32], name: u32, x: u16,
     if a == 0 {
         return close_row(shape, labels, name, x, 0);
     }
-    let w = close_row(shape, labels, name, right_of(shape, a), 0);
-    if is_level(shape, w, depth_of(shape, a)) {
-        return w;
+    let y = right_of(shape, a);
+    if leaf_of(shape, y) != y {
+        return a;
+    }
+    if y == 0 {
+        return a;
+    }
+    if label_of(labels, y) == name {
+        return y;
     }
     a
 }

@@ -14,8 +14,8 @@ use crate::asked::ask;
 use crate::shape::leaf_of;
 use crate::shape::right_of;
 
-// How many chains a path from row v on may have: any 15, one for each place that the log can tell; one alone where the levels of a pass might
-// not have room, that is in the upper levels of a recipe of over 228 rows.
+// How many chains a path from row v on may have: 15, one for each place that the log can tell; one alone where the levels of a pass might not
+// have room, that is in the upper levels of a recipe of over 228 rows.
 fn most_chains(recipe: &[u16], v: u16) -> usize
     requires { ⌜ length (now recipe) ≤ 256 ⌝ }
     ensures { λ r. ⌜ (1 ≤ r) × ((k : ℕ) → k ≤ r → k ≤ length (now (recipe .entry)) → roomFor (length (now (recipe .entry))) k (64 - depth (now (recipe .entry)) v) ≤ roomWords) ⌝ }

@@ -1,7 +1,7 @@
 -- `matching::corners::join_asked` meets its contract: every asked chain of a forest is joined with its chain in the rest. Assumes nothing.
 use native.Mathlib.Omega.{arith}
 use mathlib.Core.Path.{_≡_, ap, ap₂, _∙_}
-use Prim.Native.Nat.{ℕ, _≤_, _-_, _+_}
+use Prim.Native.Nat.{ℕ, _≤_, _<_, _-_, _+_}
 use native.Mathlib.Numerals.{add-one}
 use lib.ListN.{getD}
 use Rattle.matching.specs.CornerRow.{joinRow}
@@ -28,39 +28,40 @@ mul-a c = omega arith
 element-copy-out-a : tie.Need-element-copy-out-a Inv-loop μ-loop
 element-copy-out-a c = omega arith
 
-add-corner-after : tie.Need-add-corner-after Inv-loop μ-loop
-add-corner-after c = omega arith
+add-b : tie.Need-add-b Inv-loop μ-loop
+add-b c = omega arith
 
-corner-after-requires : tie.Need-corner-after-requires Inv-loop μ-loop
-corner-after-requires c κs =
-    let turn = c .before .before .before in
-    let start = turn .before .before in
-    let k = start .pre .1 .1 (turn .loop .i) (omega arith) in
-    let e = turn .loop .inv .1 .after (start .args .base + turn .loop .i) (omega arith) in
-    rw e (omega (arith, k .left, start .pre .0 .few), k .right, λ o. omega (arith, k .place o, start .pre .1 .0))
+add-b-2 : tie.Need-add-b-2 Inv-loop μ-loop
+add-b-2 c = omega arith
+
+mul-b : tie.Need-mul-b Inv-loop μ-loop
+mul-b c = omega arith
+
+element-copy-out-b : tie.Need-element-copy-out-b Inv-loop μ-loop
+element-copy-out-b c = omega arith
 
 add-join-row : tie.Need-add-join-row Inv-loop μ-loop
 add-join-row c = omega arith
 
-add-join-row-2 : tie.Need-add-join-row-2 Inv-loop μ-loop
-add-join-row-2 c = omega arith
-
-mul-join-row : tie.Need-mul-join-row Inv-loop μ-loop
-mul-join-row c = omega arith
-
-element-copy-out-join-row : tie.Need-element-copy-out-join-row Inv-loop μ-loop
-element-copy-out-join-row c = omega arith
+-- the corner on the chain after is what it was before the loop
+after : (c : tie.At-loop Inv-loop μ-loop) → c .loop .i < c .before .before .args .q → let a = c .before .before .args in
+    following (a .shape .now) (a .asked .now) (c .loop .room) (a .base + a .q) (getD (c .loop .room) (a .base + c .loop .i) 0)
+    ≡ following (a .shape .now) (a .asked .now) (a .room .now) (a .base + a .q) (getD (a .room .now) (a .base + c .loop .i) 0)
+after c l =
+    let a = c .before .before .args in
+    following-same (a .shape .now) (a .asked .now) (a .room .now) (c .loop .room) (a .base + a .q) (getD (c .loop .room) (a .base + c .loop .i) 0) (λ j h. c .loop .inv .1 .after j (omega arith))
+    ∙ ap (following (a .shape .now) (a .asked .now) (a .room .now) (a .base + a .q)) (c .loop .inv .1 .after (a .base + c .loop .i) (omega arith))
 
 join-row-requires : tie.Need-join-row-requires Inv-loop μ-loop
 join-row-requires c κs =
-    let turn = c .before .before .before .before .before in
+    let turn = c .before .before .before .before in
     let start = turn .before .before in
     let a = start .args in
-    let k = start .pre .1 .1 (turn .loop .i) (omega arith) in
+    let l = c .before .before .before .loop-test .taken in
+    let k = start .pre .1 .1 (turn .loop .i) l in
     let e = turn .loop .inv .1 .after (a .base + turn .loop .i) (omega arith) in
     let t = turn .loop .inv .1 .after (a .base + a .q + turn .loop .i) (omega arith) in
-    let w = following-same (a .shape .now) (a .asked .now) (a .room .now) (turn .loop .room) (a .base + a .q) (getD (turn .loop .room) (a .base + turn .loop .i) 0) (λ j h. turn .loop .inv .1 .after j (omega arith)) in
-    (start .pre .0, (omega (arith, k .left), omega (arith, k .tree), omega (arith, k .next, c .before .corner-after .ensures, w, ap (following (a .shape .now) (a .asked .now) (a .room .now) (a .base + a .q)) e)))
+    (start .pre .0, ((omega (arith, k .left, e), omega (arith, k .tree, t), omega (arith, k .next, after turn l)), rw e (k .right, λ o. omega (arith, k .place o, start .pre .1 .0))))
 
 add-room : tie.Need-add-room Inv-loop μ-loop
 add-room c = omega arith
@@ -79,20 +80,19 @@ loop-less c = omega arith
 
 loop-again : tie.Need-loop-again Inv-loop μ-loop
 loop-again c =
-    let turn = c .before .before .before .before .before .before in
+    let turn = c .before .before .before .before .before in
     let start = turn .before .before in
     let a = start .args in
     let i = turn .loop .i in
+    let l = c .before .before .before .before .loop-test .taken in
     let e = turn .loop .inv .1 .after (a .base + i) (omega arith) in
-    let t = turn .loop .inv .1 .after (a .base + a .q + i) (omega arith) in
-    let w = c .before .before .corner-after .ensures
-    ∙ following-same (a .shape .now) (a .asked .now) (a .room .now) (turn .loop .room) (a .base + a .q) (getD (turn .loop .room) (a .base + i) 0) (λ j h. turn .loop .inv .1 .after j (omega arith))
-    ∙ ap (following (a .shape .now) (a .asked .now) (a .room .now) (a .base + a .q)) e in (
+    let t = turn .loop .inv .1 .after (a .base + a .q + i) (omega arith) in (
       omega arith,
       rw add-one (written-one (a .room .now) (a .base) (joined (a .shape .now) (a .labels .now) (a .asked .now) (a .room .now) (a .base) (a .q)) i
           (turn .loop .room) (c .join-row .result) (omega (arith, start .pre .1 .0)) (turn .loop .inv .1)
-          (c .join-row .ensures ∙ ap (λ (x : ℕ). joinRow (recipeOf (a .shape .now) (a .labels .now)) x (getD (turn .loop .room) (a .base + a .q + i) 0) (c .before .before .corner-after .result)) e
-          ∙ ap₂ (joinRow (recipeOf (a .shape .now) (a .labels .now)) (getD (a .room .now) (a .base + i) 0)) t w)),
+          (c .join-row .ensures
+          ∙ ap (joinRow (recipeOf (a .shape .now) (a .labels .now)) (getD (turn .loop .room) (a .base + i) 0) (getD (turn .loop .room) (a .base + a .q + i) 0)) (after turn l)
+          ∙ ap₂ (λ (x y : ℕ). joinRow (recipeOf (a .shape .now) (a .labels .now)) x y (following (a .shape .now) (a .asked .now) (a .room .now) (a .base + a .q) (getD (a .room .now) (a .base + i) 0))) e t)),
     )
 
 returns : tie.Need-returns Inv-loop μ-loop
@@ -108,12 +108,11 @@ join-asked-spec =
     add-a
     mul-a
     element-copy-out-a
-    add-corner-after
-    corner-after-requires
+    add-b
+    add-b-2
+    mul-b
+    element-copy-out-b
     add-join-row
-    add-join-row-2
-    mul-join-row
-    element-copy-out-join-row
     join-row-requires
     add-room
     mul-room

@@ -1,12 +1,11 @@
--- `matching::joining::join_alone` meets its contract: a row alone changes a corner only where it begins it or goes on beside it. Assumes nothing.
+-- `matching::joining::join_alone` meets its contract: a row alone changes a corner only where it begins it or is a leaf beside it. Assumes nothing.
 use native.Mathlib.Omega.{arith}
-use mathlib.Core.Path.{_≡_, sym, ap, _∙_}
-use mathlib.Core.Bool.{true≢false}
+use mathlib.Core.Path.{sym, _∙_}
 use Prim.Native.Nat.{_≤_}
+use Rattle.matching.specs.Room.{recipeOf}
+use Rattle.matching.proofs.CornerWords.{after-fits, alone-none, alone-last, alone-deeper, alone-gained, alone-missed}
+use Rattle.matching.proofs.Width.{length-words}
 use lib.ListN.{length}
-use Rattle.matching.specs.Shape.{word}
-use Rattle.matching.specs.Room.{recipeOf, alone}
-use Rattle.matching.proofs.CornerWords.{alone-fits, after-fits, alone-none, alone-wider, alone-kept}
 use borrow.Author.Needs.{needs}
 use Rattle.matching.proofs.joining.join_alone.Statement.{statement}
 use Rattle.matching.proofs.joining.join_alone.Tie as tie
@@ -23,45 +22,54 @@ returns c =
 right-of-requires : tie.Need-right-of-requires
 right-of-requires c κs = search needs
 
--- the chain after the corner is a row or 0, and so is the row's corner on it
-after : (c : tie.After-right-of) → let start = c .before .before .before in let a = start .args in c .right-of .result ≤ length (recipeOf (a .shape .now) (a .labels .now))
+-- the chain after the corner's is a row or 0
+after : (c : tie.After-right-of) → let a = c .before .before .before .args in c .right-of .result ≤ length (recipeOf (a .shape .now) (a .labels .now))
 after c =
     let start = c .before .before .before in
     let a = start .args in
     omega (arith, c .right-of .ensures, after-fits (a .shape .now) (a .labels .now) (a .name) (start .pre .0) (a .x) (a .a) (start .pre .1))
 
-close-row-requires-2 : tie.Need-close-row-requires-2
-close-row-requires-2 c κs = (c .before .before .before .pre .0, (after c, omega arith))
-
-depth-of-requires : tie.Need-depth-of-requires
-depth-of-requires c κs = search needs
-
-is-level-requires : tie.Need-is-level-requires
-is-level-requires c κs =
-    let beside = c .before in
-    let start = beside .before .before .before .before in
-    let a = start .args in
-    omega (arith, beside .close-row2 .ensures, alone-fits (a .shape .now) (a .labels .now) (a .name) (beside .before .right-of .result) (after (beside .before)), start .pre .0 .few)
-
-next : (c : tie.After-close-row2) → let a = c .before .before .before .before .args in
-    c .close-row2 .result ≡ alone (a .shape .now) (a .labels .now) (a .name) (word 1 (a .shape .now) (a .a))
-next c = let a = c .before .before .before .before .args in c .close-row2 .ensures ∙ ap (alone (a .shape .now) (a .labels .now) (a .name)) (c .before .right-of .ensures)
+leaf-of-requires : tie.Need-leaf-of-requires
+leaf-of-requires c κs = omega (arith, after c, c .before .before .before .pre .0 .few)
 
 returns-2 : tie.Need-returns-2
 returns-2 c =
-    let deep = c .before .before in
-    let start = deep .before .before .before .before .before in
+    let right = c .before .before in
+    let start = right .before .before .before in
     let a = start .args in
-    alone-wider (a .shape .now) (a .labels .now) (a .name) (start .pre .0) (a .x) (a .a) (start .pre .1) (deep .before .before .before .if1 .left) _ _ (next (deep .before)) (deep .depth-of .ensures)
-    (c .before .is-level .ensures .0 (c .if2 .taken))
+    alone-deeper (a .shape .now) (a .labels .now) (a .name) (start .pre .0) (a .x) (a .a) (start .pre .1) (right .before .if1 .left) _ (right .right-of .ensures)
+    (λ e. c .if2 .taken (c .before .leaf-of .ensures ∙ e))
 
 returns-3 : tie.Need-returns-3
 returns-3 c =
-    let deep = c .before .before in
-    let start = deep .before .before .before .before .before in
+    let right = c .before .before .before in
+    let start = right .before .before .before in
     let a = start .args in
-    alone-kept (a .shape .now) (a .labels .now) (a .name) (start .pre .0) (a .x) (a .a) (start .pre .1) (deep .before .before .before .if1 .left) _ _ (next (deep .before)) (deep .depth-of .ensures)
-    (λ h. true≢false (sym (c .before .is-level .ensures .1 h) ∙ c .if2 .left))
+    alone-last (a .shape .now) (a .labels .now) (a .name) (start .pre .0) (a .x) (a .a) (start .pre .1) (right .before .if1 .left) _ (right .right-of .ensures) (c .if3 .taken)
+
+label-of-requires : tie.Need-label-of-requires
+label-of-requires c κs =
+    let right = c .before .before .before in
+    let a = right .before .before .before .args in
+    omega (arith, after right, length-words (a .shape .now) 1 (length (a .labels .now)))
+
+returns-4 : tie.Need-returns-4
+returns-4 c =
+    let leaf = c .before .before .before .before in
+    let right = leaf .before in
+    let start = right .before .before .before in
+    let a = start .args in
+    alone-gained (a .shape .now) (a .labels .now) (a .name) (start .pre .0) (a .x) (a .a) (start .pre .1) (right .before .if1 .left) _ (right .right-of .ensures) (c .before .before .if3 .left)
+    (sym (leaf .leaf-of .ensures) ∙ c .before .before .before .if2 .left) _ (c .before .label-of .ensures) (c .if4 .taken)
+
+returns-5 : tie.Need-returns-5
+returns-5 c =
+    let leaf = c .before .before .before .before in
+    let right = leaf .before in
+    let start = right .before .before .before in
+    let a = start .args in
+    alone-missed (a .shape .now) (a .labels .now) (a .name) (start .pre .0) (a .x) (a .a) (start .pre .1) (right .before .if1 .left) _ (right .right-of .ensures) (c .before .before .if3 .left)
+    (sym (leaf .leaf-of .ensures) ∙ c .before .before .before .if2 .left) _ (c .before .label-of .ensures) (c .if4 .left)
 
 pub join-alone-spec : {M : Type 1} → statement M
 join-alone-spec =
@@ -70,8 +78,9 @@ join-alone-spec =
     close-row-requires
     returns
     right-of-requires
-    close-row-requires-2
-    depth-of-requires
-    is-level-requires
+    leaf-of-requires
     returns-2
-    returns-3)
+    returns-3
+    label-of-requires
+    returns-4
+    returns-5)

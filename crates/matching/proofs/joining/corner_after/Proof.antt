@@ -1,4 +1,4 @@
--- `matching::corners::corner_after` meets its contract: the corner of two forests side by side, from the corners of each. Assumes nothing.
+-- `matching::joining::corner_after` meets its contract: the corner of two forests side by side, from the corners of each. Assumes nothing.
 use native.Mathlib.Omega.{arith}
 use mathlib.Core.Path.{_≡_, sym, ap, _∙_}
 use Prim.Native.Nat.{ℕ, _+_, _<_}
@@ -8,8 +8,8 @@ use Rattle.matching.specs.Asked.{noted}
 use Rattle.matching.specs.Room.{roomWords}
 use Rattle.matching.proofs.Written.{following-none, following-some}
 use borrow.Author.Needs.{needs}
-use Rattle.matching.proofs.corners.corner_after.Statement.{statement}
-use Rattle.matching.proofs.corners.corner_after.Tie as tie
+use Rattle.matching.proofs.joining.corner_after.Statement.{statement}
+use Rattle.matching.proofs.joining.corner_after.Tie as tie
 
 right-of-requires : tie.Need-right-of-requires
 right-of-requires c κs = search needs
