@@ -1,9 +1,9 @@
 -- The rows of a chain, from a row down by first children: how deep they stand, and that they are in the tree of its first. Assumes nothing.
-use mathlib.Core.Path.{_≡_, refl, sym, ap, _∙_}
+use mathlib.Core.Path.{_≡_}
 use mathlib.Core.List.{List}
 use Prim.Native.Nat.{ℕ, zero, suc, _+_, _-_, _≤_, _<_}
 use native.Mathlib.Omega.{arith}
-use Rattle.rows.specs.Rows.{Row, depth, Outline, lastRow, descendants}
+use Rattle.rows.specs.Rows.{Row, depth, Outline, lastRow}
 use Rattle.rows.proofs.Depths.{deeper-inside}
 use Rattle.matching.specs.Family.{leftLeaf}
 use Rattle.matching.specs.CornerRow.{fromRow, Chained}

@@ -21,7 +21,7 @@ use Rattle.matching.proofs.AskedLaws.{asked-fewer}
 use Rattle.matching.proofs.Bare.{Walk, walk-end}
 use Rattle.matching.proofs.CornerRow.{join-empty, join-kept}
 use Rattle.matching.proofs.Foreign.{leafless}
-use Rattle.matching.proofs.Held.{stands-tree, held-tree}
+use Rattle.matching.proofs.Held.{stands-tree}
 use Rattle.matching.proofs.Passes.{chain-low}
 use Rattle.matching.proofs.TreeJoins.{right-word}
 

@@ -2,7 +2,6 @@
 use mathlib.Core.Path.{refl, _∙_}
 use native.Mathlib.Omega.{arith}
 use lib.ListN.{length-set}
-use borrow.Author.Needs.{needs}
 use Rattle.matching.proofs.images.place_known.Statement.{statement}
 use Rattle.matching.proofs.images.place_known.Tie as tie
 

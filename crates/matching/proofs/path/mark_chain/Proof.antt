@@ -3,7 +3,6 @@ use mathlib.Core.Path.{sym, _∙_}
 use Prim.Native.Nat.{suc, _≤_, _-_}
 use native.Mathlib.Omega.{arith}
 use native.Mathlib.Numerals.{add-one}
-use Rattle.rows.specs.Rows.{Row, descendants}
 use Rattle.rows.proofs.DescendantLaws.{descendants-within}
 use Rattle.matching.proofs.Asking.{inner-row, marks-wide, Chaining, chaining-first, chaining-next}
 use Rattle.matching.proofs.path.mark_chain.Statement.{statement}
