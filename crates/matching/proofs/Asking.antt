@@ -315,16 +315,16 @@ module _ (rd : List ℕ) (kr : Outline rd) (few : length rd ≤ 256) where
         go (chained e s z) =
             let r = a .chains .rows (k - 1) (omega (arith, a .some)) in
             (omega arith, rw (s, z) (asking-chained asked m₀ m v u k i a inner (sym (h .leaves u (a .row .1)) ∙ e ∙ h .leaves (chain asked (k - 1)) (r .1))))
-        go (asks o y) = (omega (arith, asking-more asked m₀ m v u k i a inner us n y), asking-asked asked m₀ m v u k i a inner us n y)
-        go (stops s z) = absurd (some z)
+        go (asks d o y) = (omega (arith, asking-more asked m₀ m v u k i a inner us n y), asking-asked asked m₀ m v u k i a inner us n y)
+        go (stops d o s z) = absurd (some z)
 
     pub asking-stop : 1 ≤ descendants rd u → n ≡ 0 → us ≡ asked
     asking-stop inner e = go x
       where
         go : AsksNext shape asked k most u us n → us ≡ asked
         go (chained c s z) = s
-        go (asks o y) = absurd (omega (arith, asking-more asked m₀ m v u k i a inner us n y))
-        go (stops s z) = s
+        go (asks d o y) = absurd (omega (arith, asking-more asked m₀ m v u k i a inner us n y))
+        go (stops d o s z) = s
 
   -- it gets its mark, and a child of it is next
   pub asking-next : (asked m₀ m : List ℕ) (v u k i w : ℕ) → length rd ≤ length m₀ → Stood rd asked m₀ m v u k i → Child rd u w

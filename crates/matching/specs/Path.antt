@@ -38,12 +38,12 @@ pub record PathAsked (rd asked : List ℕ) (k : ℕ) : Type 0 where
   pub path : Path rd asked k
   pub room : roomFor (length rd) k (64 - depth rd (chain asked 0)) ≤ roomWords
 
--- of the chains us, n are asked: the k of ws and row u too; or the same, where u has the left-most leaf of the last of them. n is 0, and none
--- more asked, where that would be more than `most`
+-- of the chains us, n are asked: the k of ws, where u has the left-most leaf of the last of them; else row u too, or n is 0 and all as it was
+-- where that would be more than `most`
 pub data AsksNext (shape ws : List ℕ) (k most u : ℕ) (us : List ℕ) (n : ℕ) : Type 0 where
   chained : word 2 shape u ≡ word 2 shape (chain ws (k - 1)) → us ≡ ws → n ≡ k → AsksNext shape ws k most u us n
-  asks : k < most → Asks ws k u us n → AsksNext shape ws k most u us n
-  stops : us ≡ ws → n ≡ 0 → AsksNext shape ws k most u us n
+  asks : (word 2 shape u ≡ word 2 shape (chain ws (k - 1)) → ⊥) → k < most → Asks ws k u us n → AsksNext shape ws k most u us n
+  stops : (word 2 shape u ≡ word 2 shape (chain ws (k - 1)) → ⊥) → most ≤ k → us ≡ ws → n ≡ 0 → AsksNext shape ws k most u us n
 
 -- the tree at listing row t includes recipe row v with all its descendants
 abbrev pub Within : (ℕ → ℕ → Type 0) → List ℕ → List ℕ → ℕ → ℕ → Type 0
