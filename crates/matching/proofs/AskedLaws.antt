@@ -179,3 +179,12 @@ module _ (shape ws room : List ℕ) (base q : ℕ) where
       member : (i : ℕ) → i < suc k → 1 ≤ after shape room (base + i) → Dec (i < k) → Member vs p (after shape room (base + i))
       member i h o (yes l) = member-kept 256 us vs n p (after shape room (base + i)) (a .least) (a .keep) t (x .member i l o)
       member i h o (no l) = let e : i ≡ k = omega arith in rw e (a .member (rw e at o))
+
+-- what holds of the chains asked, and of row 0, holds of the chain after each corner
+pub after-asked : {shape ws room us : List ℕ} {base q k n : ℕ} → Extends shape ws room base q k us n → (P : ℕ → Type 0) → ((j : ℕ) → j < n → P (chain us j)) → P 0
+    → (i : ℕ) → i < k → P (after shape room (base + i))
+after-asked {shape} {ws} {room} {us} {base} x P all none i l = go (ℕ-discrete (after shape room (base + i)) 0)
+  where
+    go : Dec (after shape room (base + i) ≡ 0) → P (after shape room (base + i))
+    go (yes e) = rw e none
+    go (no e) = let m = x .member i l (omega arith) in rw (m .1) at (all (noted us (after shape room (base + i))) (m .0))

@@ -89,7 +89,7 @@ one-row {Fit} {g = g} p q =
 
 -- row 0 has no corner
 module _ (test : ℕ → ℕ → Bool) (rd : List ℕ) where
-  corners-zero : (f : Forest ℕ) → corners test rd f 0 ≡ 0
+  pub corners-zero : (f : Forest ℕ) → corners test rd f 0 ≡ 0
   corners-zero nil = refl
   corners-zero (cons t f r) = join-empty rd _ _ _ (go (test 0 t) refl (corners-zero f)) ∙ corners-zero r
     where

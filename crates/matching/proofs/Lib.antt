@@ -19,7 +19,7 @@ pub mod Foreign
 pub mod ForestJoins
 pub mod Held
 pub mod Holds
-pub mod IdleLaws
+pub mod PlainLaws
 pub mod JudgeLaws
 pub mod Keeps
 pub mod KindLaws

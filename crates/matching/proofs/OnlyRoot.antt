@@ -1,4 +1,4 @@
--- The pass over the whole listing: a recipe with one root is found where that root is. Assumes nothing.
+-- The pass over the whole listing: a recipe with one root is found where that root is, and one of a single row where its label is. Assumes nothing.
 use mathlib.Core.Path.{_≡_, refl, sym, ap, _∙_}
 use mathlib.Core.List.{List, [], _∷_}
 use mathlib.Core.Logic.{_↔_}
@@ -7,26 +7,30 @@ use native.Mathlib.Omega.{arith}
 use native.Mathlib.Decide.{decLe}
 use lib.ListN.{length, getD}
 use Rattle.rows.specs.Limits.{listingRows}
-use Rattle.rows.specs.Rows.{Row, Outline, depth, descendants, lastRow}
+use Rattle.rows.specs.Rows.{at, Row, Outline, depth, descendants, lastRow}
 use Rattle.rows.specs.Forest.{Forest, size, forestAt, forest}
 use Rattle.rows.specs.Embedding.{SameLabel}
 use Rattle.rows.proofs.Depths.{inside-deeper}
 use Rattle.rows.proofs.Windows.{stands-forest, size-forest}
-use Rattle.matching.specs.Family.{rightSibling}
+use Rattle.matching.specs.Family.{rightSibling, leftLeaf}
 use Rattle.matching.specs.Asked.{chain}
 use Rattle.matching.specs.EarliestClose.{Holds}
-use Rattle.matching.specs.Placing.{HeldIn, FirstIn}
+use Rattle.matching.specs.Placing.{FirstIn}
 use Rattle.matching.specs.Shape.{word}
 use Rattle.matching.specs.Path.{logBytes, Path}
 use Rattle.matching.specs.Room.{recipeOf, roomWords}
 use Rattle.matching.specs.Engine.{Ready, Begins, Sought, Passed, Known, cornerOf}
 use Rattle.matching.proofs.Alone.{askAlone, alone-chain, begins-alone, forest-top}
 use Rattle.matching.proofs.Asking.{inner-row}
+use Rattle.matching.proofs.Foreign.{leafless}
 use Rattle.matching.proofs.Held.{held-iff}
+use Rattle.matching.proofs.LeftLeaf.{leaf-within}
 use Rattle.matching.proofs.Level.{Next, next, last, next-of}
 use Rattle.matching.proofs.Passes.{level-lies}
 use Rattle.matching.proofs.PathLaws.{told-same}
+use Rattle.matching.proofs.Scan.{leaf-held}
 use Rattle.matching.proofs.TreeJoins.{corner-of-fits}
+use Rattle.matching.proofs.Width.{length-words}
 
 -- row 1 has no right sibling: no other row is a root
 only-row : (rd : List ℕ) → Outline rd → rightSibling rd 1 ≡ 0 → (w : ℕ) → Row rd w → depth rd w ≡ 0 → w ≡ 1
@@ -38,20 +42,51 @@ only-row rd k e w r d = go (next-of rd 1 (omega arith)) (decLe w 1) (decLe w (la
     go (next s q f) (no i) (no j) = absurd (omega arith)
     go (last s f) (no i) (no j) = absurd (omega (arith, f (omega arith), k .first (omega arith)))
 
--- a listing row holds it: the corner of the whole listing is row 1
-only-corner : (ws rl td tl : List ℕ) (k : Ready ws rl td tl) → 1 ≤ length (recipeOf ws rl) → rightSibling (recipeOf ws rl) 1 ≡ 0
-    → (t : ℕ) → FirstIn td (Holds (SameLabel rl tl) (recipeOf ws rl) td 1) 1 (length td) t → 1 ≡ cornerOf ws rl tl (forest td) 1
-only-corner ws rl td tl k one e t f =
+-- a listing row holds row 1: the corner of the whole listing is a root, ..
+root-corner : (ws rl td tl : List ℕ) → Ready ws rl td tl → 1 ≤ length (recipeOf ws rl) → (t : ℕ) → Row td t → Holds (SameLabel rl tl) (recipeOf ws rl) td 1 t
+    → Row (recipeOf ws rl) (cornerOf ws rl tl (forest td) 1) × (depth (recipeOf ws rl) (cornerOf ws rl tl (forest td) 1) ≡ 0)
+root-corner ws rl td tl k one t s h =
     let rd = recipeOf ws rl in
     let r : Row rd 1 = (omega arith, one) in
     let w = cornerOf ws rl tl (forest td) 1 in
     let n = size-forest td (k .listing .outline) in
-    let h : HeldIn (SameLabel rl tl) rd td 1 1 (0 + size (forest td)) = (t, f .low, omega (arith, f .high, n), f .holds) in
-    let i = (held-iff (SameLabel rl tl) rd td (k .outline) (k .listing .outline) 1 0 (forest td) r (omega (arith, n)) (stands-forest td (k .listing .outline))) .0 h in
-    let l = (level-lies ws rl td tl k 1 r (forest td) w refl) .1 i in
+    let i = held-iff (SameLabel rl tl) rd td (k .outline) (k .listing .outline) 1 0 (forest td) r (omega (arith, n)) (stands-forest td (k .listing .outline)) in
+    let l = (level-lies ws rl td tl k 1 r (forest td) w refl) .1 (i .0 (t, s .0, omega (arith, s, n), h)) in
     let o = corner-of-fits ws rl td tl k (forest td) 1 one in
-    let d : depth rd w ≡ 0 = sym (k .shape .depths w o) ∙ l .1 ∙ k .shape .depths 1 one ∙ k .outline .first r in
-    sym (only-row rd (k .outline) e w (l .0, o) d)
+    ((l .0, o), sym (k .shape .depths w o) ∙ l .1 ∙ k .shape .depths 1 one ∙ k .outline .first r)
+
+-- .. and row 1, where that is the only root
+only-corner : (ws rl td tl : List ℕ) (k : Ready ws rl td tl) → 1 ≤ length (recipeOf ws rl) → rightSibling (recipeOf ws rl) 1 ≡ 0
+    → (t : ℕ) → FirstIn td (Holds (SameLabel rl tl) (recipeOf ws rl) td 1) 1 (length td) t → 1 ≡ cornerOf ws rl tl (forest td) 1
+only-corner ws rl td tl k one e t f =
+    let c = root-corner ws rl td tl k one t (f .low, f .high) (f .holds) in
+    sym (only-row (recipeOf ws rl) (k .outline) e _ (c .0) (c .1))
+
+-- a recipe of one row: the corner of the whole listing is that row where a listing row has its label, else empty
+pub one-row-corner : (ws rl td tl : List ℕ) → Ready ws rl td tl → length rl ≡ 1 → (r : ℕ) → r ≤ 1 → (1 ≤ r) ↔ ((y : ℕ) × Row tl y × (at rl 1 ≡ at tl y))
+    → r ≡ cornerOf ws rl tl (forest td) 1
+one-row-corner ws rl td tl k one r few found = go (decLe 1 r)
+  where
+    rd : List ℕ
+    rd = recipeOf ws rl
+
+    rows : length rd ≡ 1
+    rows = length-words ws 1 (length rl) ∙ one
+
+    leaf : leftLeaf rd 1 ≡ 1
+    leaf = omega (arith, leaf-within rd 1 (omega (arith, rows)), rows)
+
+    go : Dec (1 ≤ r) → r ≡ cornerOf ws rl tl (forest td) 1
+    go (yes o) =
+        let f = found .0 o in
+        let s : Row td (f .0) = omega (arith, f .1, k .names) in
+        let h = leaf-held (SameLabel rl tl) rd td (k .outline) (k .listing .outline) 1 (omega (arith, rows)) leaf (f .0) s .1 (f .2) in
+        omega (arith, root-corner ws rl td tl k (omega (arith, rows)) (f .0) s h .0, rows)
+    go (no o) =
+        let n = size-forest td (k .listing .outline) in
+        let e = leafless ws rl td tl k 1 0 (forest td) (stands-forest td (k .listing .outline))
+        (λ y a b q. o (found .1 (y, omega (arith, n, k .names), ap (at rl) (sym leaf) ∙ q))) in
+        omega (arith, e)
 
 -- nothing is known of row 1's image by 0
 pub known-none : {ws rl td tl ls : List ℕ} → Known ws rl td tl ls 0

@@ -1,7 +1,6 @@
 -- The first row to close of those that obey P, as those with a label do, found by one scan: the first of them, then the first below that one, and
 -- so on. Assumes nothing.
-use mathlib.Core.Path.{_≡_, refl, sym, ap}
-use mathlib.Core.Bool.{Bool, true, false, _&&_, true≢false}
+use mathlib.Core.Path.{_≡_, ap}
 use mathlib.Core.List.{List}
 use mathlib.Core.Logic.{_↔_}
 use Prim.Native.Nat.{ℕ, zero, suc, _≤_, _<_}
@@ -16,27 +15,23 @@ use Rattle.rows.proofs.Order.{Compared, less, same, more, compared, window, beh
 use Rattle.rows.proofs.Windows.{at-end}
 use Rattle.matching.specs.Family.{leftLeaf}
 use Rattle.matching.specs.EarliestClose.{Holds}
-use Rattle.matching.specs.Placing.{FirstIn, latest}
+use Rattle.matching.specs.Placing.{FirstIn}
 use Rattle.matching.proofs.Holds.{holds-iff}
 use Rattle.matching.proofs.LeftLeaf.{descent-on}
 
--- a test of two parts tells whether both hold
-pub both-tell : {P Q : Type 0} (b c : Bool) → ((b ≡ true) ↔ P) → ((c ≡ true) ↔ Q) → ((b && c) ≡ true) ↔ (P × Q)
-both-tell true c p q = (λ e. (p .0 refl, q .0 e), λ h. q .1 (h .1))
-both-tell false c p q = (λ e. absurd (true≢false (sym e)), λ h. absurd (true≢false (sym (p .1 (h .0)))))
-
 -- of the rows behind `from` rows, up to row r, the scan has come upon row h last, or upon none (0): h obeys P, the rows after it
--- are below it and do not, and those before it that do close later
-pub data Scanned (ds : List ℕ) (P : ℕ → Type 0) (from r : ℕ) : ℕ → Type 0 where
-  none : ((y : ℕ) → from < y → y ≤ r → P y → ⊥) → Scanned ds P from r 0
+-- are below it and do not, and those before it that do close later. The next row is below h unless it is shallower than `stop`,
+-- one more than the depth of h, or 0 for none
+pub data Scanned (ds : List ℕ) (P : ℕ → Type 0) (from r : ℕ) : (h stop : ℕ) → Type 0 where
+  none : ((y : ℕ) → from < y → y ≤ r → P y → ⊥) → Scanned ds P from r 0 0
   upon : (h : ℕ) → from < h → h ≤ r → r ≤ lastRow ds h → P h → ((y : ℕ) → h < y → y ≤ r → P y → ⊥)
-      → ((y : ℕ) → from < y → y < h → P y → closing ds h ≤ closing ds y) → Scanned ds P from r h
+      → ((y : ℕ) → from < y → y < h → P y → closing ds h ≤ closing ds y) → Scanned ds P from r h (suc (depth ds h))
 
 module _ (ds : List ℕ) (k : Outline ds) (P : ℕ → Type 0) (from : ℕ) where
-  pub scanned-none : Scanned ds P from from 0
+  pub scanned-none : Scanned ds P from from 0 0
   scanned-none = none (λ y a b p. omega arith)
 
-  -- the next row obeys P, or does not; it is below the row that the scan came upon
+  -- the next row obeys P, or does not; it is not shallower than `stop`, and so below the row that the scan came upon
   module _ (r : ℕ) (low : from ≤ r) (l : r < length ds) where
     below-last : (h : ℕ) → from < h → h ≤ r → r ≤ lastRow ds h → depth ds h < depth ds (suc r) → suc r ≤ lastRow ds h
     below-last h a b c d = go (decLe (suc r) (lastRow ds h))
@@ -45,10 +40,10 @@ module _ (ds : List ℕ) (k : Outline ds) (P : ℕ → Type 0) (from : ℕ) wher
         go (yes i) = i
         go (no i) = let e : lastRow ds h ≡ r = omega arith in absurd (omega (arith, rw e at (after-shallow ds h (omega arith))))
 
-    pub scanned-hit : (h : ℕ) → (1 ≤ h → depth ds h < depth ds (suc r)) → Scanned ds P from r h → P (suc r) → Scanned ds P from (suc r) (suc r)
-    scanned-hit _ d (none n) p = upon (suc r) (omega arith) (omega arith) (omega arith) p (λ y a b q. omega arith) (λ y a b q. absurd (n y a (omega arith) q))
-    scanned-hit _ d (upon h a b c q clean first) p =
-        let i = below-last h a b c (d (omega arith)) in
+    pub scanned-hit : (h stop : ℕ) → stop ≤ depth ds (suc r) → Scanned ds P from r h stop → P (suc r) → Scanned ds P from (suc r) (suc r) (suc (depth ds (suc r)))
+    scanned-hit _ _ d (none n) p = upon (suc r) (omega arith) (omega arith) (omega arith) p (λ y a b q. omega arith) (λ y a b q. absurd (n y a (omega arith) q))
+    scanned-hit _ _ d (upon h a b c q clean first) p =
+        let i = below-last h a b c d in
         let s = ((window ds k h (suc r) (omega arith) (omega arith)) .1 (omega arith, i)) .2 in
         upon (suc r) (omega arith) (omega arith) (omega arith) p (λ y u v w. omega arith) (λ y u v w. go s y u v w (compared y h))
       where
@@ -57,48 +52,28 @@ module _ (ds : List ℕ) (k : Outline ds) (P : ℕ → Type 0) (from : ℕ) wher
         go s y u v w (same o) = omega (arith, ap (closing ds) o)
         go s y u v w (more o) = absurd (clean y o (omega arith) w)
 
-    pub scanned-miss : (h : ℕ) → (1 ≤ h → depth ds h < depth ds (suc r)) → Scanned ds P from r h → (P (suc r) → ⊥) → Scanned ds P from (suc r) h
-    scanned-miss _ d (none n) m = none (λ y a b q. go y a b q (decLe y r))
+    pub scanned-miss : (h stop : ℕ) → stop ≤ depth ds (suc r) → Scanned ds P from r h stop → (P (suc r) → ⊥) → Scanned ds P from (suc r) h stop
+    scanned-miss _ _ d (none n) m = none (λ y a b q. go y a b q (decLe y r))
       where
         go : (y : ℕ) → from < y → y ≤ suc r → P y → Dec (y ≤ r) → ⊥
         go y a b q (yes i) = n y a i q
         go y a b q (no i) = let e : y ≡ suc r = omega arith in m (rw e at q)
-    scanned-miss _ d (upon h a b c q clean first) m =
-        upon h a (omega arith) (below-last h a b c (d (omega arith))) q (λ y u v w. go y u v w (decLe y r)) first
+    scanned-miss _ _ d (upon h a b c q clean first) m =
+        upon h a (omega arith) (below-last h a b c d) q (λ y u v w. go y u v w (decLe y r)) first
       where
         go : (y : ℕ) → h < y → y ≤ suc r → P y → Dec (y ≤ r) → ⊥
         go y u v w (yes i) = clean y u i w
         go y u v w (no i) = let e : y ≡ suc r = omega arith in m (rw e at w)
 
-  -- one more row is scanned, by a test that tells whether P holds of it
-  pub scanned-latest : (r : ℕ) → from ≤ r → r < length ds → (h : ℕ) → ((1 ≤ h) × (depth ds (suc r) ≤ depth ds h) → ⊥) → (test : Bool) → (test ≡ true) ↔ P (suc r)
-      → Scanned ds P from r h → Scanned ds P from (suc r) (latest test r h)
-  scanned-latest r low l h past test d s = go test d
-    where
-      deeper : 1 ≤ h → depth ds h < depth ds (suc r)
-      deeper o = less-or (decLe (depth ds (suc r)) (depth ds h))
-        where
-          less-or : Dec (depth ds (suc r) ≤ depth ds h) → depth ds h < depth ds (suc r)
-          less-or (yes i) = absurd (past (o, i))
-          less-or (no i) = omega arith
-
-      go : (t : Bool) → (t ≡ true) ↔ P (suc r) → Scanned ds P from (suc r) (latest t r h)
-      go true d = scanned-hit r low l h deeper s (d .0 refl)
-      go false d = scanned-miss r low l h deeper s (λ p. true≢false (sym (d .1 p)))
-
-  pub scanned-fits : (r h : ℕ) → Scanned ds P from r h → h ≤ r
-  scanned-fits r _ (none n) = omega arith
-  scanned-fits r _ (upon h a b c q clean first) = b
-
-  -- no row is left below the row that the scan came upon: that is the first to close
-  pub scanned-end : (r h : ℕ) → r ≤ length ds → (r < length ds → (1 ≤ h) × (depth ds (suc r) ≤ depth ds h)) → Scanned ds P from r h
+  -- no row is left, or the next is shallower than `stop`: the row that the scan came upon is the first to close
+  pub scanned-end : (r h stop : ℕ) → r ≤ length ds → (r < length ds → depth ds (suc r) < stop) → Scanned ds P from r h stop
       → (y : ℕ) → from < y → y ≤ length ds → P y → FirstIn ds P (suc from) (length ds) h
-  scanned-end r _ low e (none n) y a b p = absurd (go (decLe y r))
+  scanned-end r _ _ low e (none n) y a b p = absurd (go (decLe y r))
     where
       go : Dec (y ≤ r) → ⊥
       go (yes i) = n y a i p
-      go (no i) = omega (arith, e (omega arith) .0)
-  scanned-end r _ low e (upon h a b c q clean first) y′ a′ b′ p′ =
+      go (no i) = omega (arith, e (omega arith))
+  scanned-end r _ _ low e (upon h a b c q clean first) y′ a′ b′ p′ =
       record { low = a; high = omega arith; holds = q; first = λ y u v w. go y u v w (compared y h) (decLe y r) }
     where
       row : Row ds h
@@ -108,7 +83,7 @@ module _ (ds : List ℕ) (k : Outline ds) (P : ℕ → Type 0) (from : ℕ) wher
       ends = at-last (decLe (suc r) (lastRow ds h))
         where
           at-last : Dec (suc r ≤ lastRow ds h) → lastRow ds h ≤ r
-          at-last (yes i) = let f = last-fits ds h row in absurd (omega (arith, inside-deeper ds h (suc r) (omega arith) (omega arith) i, e (omega arith) .1))
+          at-last (yes i) = let f = last-fits ds h row in absurd (omega (arith, inside-deeper ds h (suc r) (omega arith) (omega arith) i, e (omega arith)))
           at-last (no i) = omega arith
 
       go : (y : ℕ) → suc from ≤ y → y ≤ length ds → P y → Compared y h → Dec (y ≤ r) → closing ds h ≤ closing ds y

@@ -13,7 +13,7 @@ use Rattle.rows.proofs.Windows.{size-below}
 use Rattle.matching.specs.Family.{rightSibling}
 use Rattle.matching.specs.CornerRow.{closeRow, joinRow, OnChain}
 use Rattle.matching.specs.Shape.{word}
-use Rattle.matching.specs.Asked.{chain, noted, Asked, Member, after, Extends}
+use Rattle.matching.specs.Asked.{chain, noted, Asked, Keep, Member, after, Extends}
 use Rattle.matching.specs.Room.{roomWords, roomFor, Written, named, sameLabel, recipeOf, closed, following, joined, alone, joinedAlone, Joins}
 use Rattle.matching.specs.Engine.{Ready, Begins, Ends, treeAt, cornerOf, withTree}
 use Rattle.matching.proofs.AskedLaws.{asked-few, member-kept}
@@ -41,6 +41,10 @@ module _ (td : List ℕ) (o : Outline td) (i : ℕ) (h : i < length td) (more : 
   pub below-last : suc i + size (forestAt td (suc i) (depth td (suc (suc i)))) ≡ lastRow td (suc i)
   below-last = ap (λ (n : ℕ). suc i + n) (ap size below-forest ∙ size-below td o (suc i) (omega arith))
 
+-- on row 0, which is no chain, a row alone has no corner
+pub alone-none : (ws rl : List ℕ) (a : ℕ) → alone ws rl a 0 ≡ 0
+alone-none ws rl a = alone-case ws rl a (λ b. b ≡ 0) 0 refl refl
+
 module _ (ws rl td tl : List ℕ) (k : Ready ws rl td tl) where
   abbrev rd : List ℕ
   rd = recipeOf ws rl
@@ -62,7 +66,7 @@ module _ (ws rl td tl : List ℕ) (k : Ready ws rl td tl) where
 
   -- and a row over rows that have no corners
   alone-of : (t x : ℕ) (f : Forest ℕ) → x ≤ length rd → cornerOf ws rl tl f x ≡ 0 → alone ws rl (at tl t) x ≡ cornerOf ws rl tl (cons t f nil) x
-  alone-of t zero f h e = alone-case ws rl (at tl t) (λ b. b ≡ 0) 0 refl refl
+  alone-of t zero f h e = alone-none ws rl (at tl t)
   alone-of t (suc z) f h e = ap (closeRow (named rl) rd (suc z) (at tl t)) (sym e) ∙ close-of t (suc z) f (omega arith, h)
 
   -- a level's chains are few, and there is room for their corners
@@ -88,28 +92,33 @@ module _ (ws rl td tl : List ℕ) (k : Ready ws rl td tl) where
     extend-fits i l =
         omega (arith, fits i l .row, k .shape .few, right-word (getD rs (base + i) 0) (fits i l .row), right-fits rd (getD rs (base + i) 0))
 
-    -- a row with nothing below it that has a corner
-    module _ (empty : (x : ℕ) → x ≤ length rd → cornerOf ws rl tl (below td (suc first)) x ≡ 0) where
-      alone-tree : (x : ℕ) → x ≤ length rd → alone ws rl name x ≡ cornerOf ws rl tl (treeAt td first) x
-      alone-tree x l = alone-of (suc first) x (below td (suc first)) l (empty x l)
-
-      right-low : (i : ℕ) → i < q → word 1 ws (getD rs (base + i) 0) ≤ length rd
-      right-low i l = omega (arith, right-word (getD rs (base + i) 0) (fits i l .row), right-fits rd (getD rs (base + i) 0))
-
-      pub leaf-ends : (ss : List ℕ) → Written rs base q (joinedAlone ws rl name asked rs base) ss
-          → Ends ws rl asked rs base q (λ i. withTree ws rl td tl first (chain asked i) (getD rs (base + i) 0)) asked ss
-      leaf-ends ss w =
+    -- a tree that gives the chains asked, and those after their corners, what its first row alone would
+    module _ (us : List ℕ) (chains : Asked (length rd) us q) (keep : Keep asked us q)
+        (here : (i : ℕ) → i < q → alone ws rl name (chain asked i) ≡ cornerOf ws rl tl (treeAt td first) (chain asked i))
+        (beside : (i : ℕ) → i < q → alone ws rl name (after ws rs (base + i)) ≡ cornerOf ws rl tl (treeAt td first) (after ws rs (base + i))) where
+      pub alone-ends : (ss : List ℕ) → Written rs base q (joinedAlone ws rl name us rs base) ss
+          → Ends ws rl asked rs base q (λ i. withTree ws rl td tl first (chain asked i) (getD rs (base + i) 0)) us ss
+      alone-ends ss w =
           record {
-            chains = b .chains;
-            keep = λ i l. refl;
+            chains = chains;
+            keep = keep;
             words = w .size ∙ b .words;
             before = w .before;
             corners = λ i l.
                 w .new i l
-                ∙ ap₂ (joinRow rd (getD rs (base + i) 0)) (alone-tree (chain asked i) (b .chains .rows i l .1))
-                (alone-tree (word 1 ws (getD rs (base + i) 0)) (right-low i l)
-                ∙ ap (cornerOf ws rl tl (treeAt td first)) (right-word (getD rs (base + i) 0) (fits i l .row)));
+                ∙ ap₂ (joinRow rd (getD rs (base + i) 0)) (ap (alone ws rl name) (keep i l) ∙ here i l)
+                (beside i l ∙ ap (cornerOf ws rl tl (treeAt td first)) (right-word (getD rs (base + i) 0) (fits i l .row)));
           }
+
+    -- such is a row with nothing below it that has a corner
+    pub leaf-ends : ((x : ℕ) → x ≤ length rd → cornerOf ws rl tl (below td (suc first)) x ≡ 0) → (ss : List ℕ) → Written rs base q (joinedAlone ws rl name asked rs base) ss
+        → Ends ws rl asked rs base q (λ i. withTree ws rl td tl first (chain asked i) (getD rs (base + i) 0)) asked ss
+    leaf-ends empty =
+        alone-ends asked (b .chains) (λ i l. refl) (λ i l. alone-tree (chain asked i) (b .chains .rows i l .1))
+        (λ i l. alone-tree _ (omega (arith, right-word (getD rs (base + i) 0) (fits i l .row), right-fits rd (getD rs (base + i) 0))))
+      where
+        alone-tree : (x : ℕ) → x ≤ length rd → alone ws rl name x ≡ cornerOf ws rl tl (treeAt td first) x
+        alone-tree x l = alone-of (suc first) x (below td (suc first)) l (empty x l)
 
     -- a row with rows below it
     module _ (more : 1 ≤ descendants td (suc first)) where

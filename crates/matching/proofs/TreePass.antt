@@ -1,5 +1,6 @@
 -- A pass over a tree of the listing ends as it should, whether it goes through or finds the row sought. Assumes nothing.
 use mathlib.Core.Path.{_≡_, refl, sym, ap, _∙_}
+use mathlib.Core.Bool.{Bool, false}
 use mathlib.Core.List.{List}
 use Prim.Native.Nat.{ℕ, suc, _+_, _-_, _≤_, _<_}
 use native.Mathlib.Omega.{arith}
@@ -16,14 +17,14 @@ use Rattle.matching.specs.Family.{parent}
 use Rattle.matching.specs.CornerRow.{Chained, OnChain}
 use Rattle.matching.specs.Shape.{word, Foreign}
 use Rattle.matching.specs.Asked.{Asked, chain, Keep, Extends}
-use Rattle.matching.specs.Room.{recipeOf, Written, closed, joined, joinedAlone}
+use Rattle.matching.specs.Room.{recipeOf, Written, closed, joined, alone, joinedAlone}
 use Rattle.matching.specs.Path.{logBytes, OnPath, Within, Told, Put, Kept, Blank, Met, FirstPlace, met, none}
-use Rattle.matching.specs.Engine.{Ready, Begins, Sought, Ends, Found, Through, Passed, Bare, LeafAsked, Idle, treeAt, cornerOf, withTree}
-use Rattle.matching.proofs.AskedLaws.{asked-fewer}
+use Rattle.matching.specs.Engine.{Ready, Begins, Sought, Ends, Found, Through, Passed, Bare, PlainTree, treeAt, cornerOf, withTree}
+use Rattle.matching.proofs.AskedLaws.{asked-fewer, after-asked}
 use Rattle.matching.proofs.Chains.{chained-deep, chained-inside}
 use Rattle.matching.proofs.Foreign.{bare-without, foreign-none, foreign-tells}
-use Rattle.matching.proofs.IdleLaws.{idle-without, idle-ends}
-use Rattle.matching.proofs.TreeJoins.{corner-of-fits, below-last, leaf-ends, chains-more, tree-corner, tree-ends}
+use Rattle.matching.proofs.TreeJoins.{corner-of-fits, alone-none, below-last, alone-ends, leaf-ends, chains-more, tree-corner, tree-ends}
+use Rattle.matching.proofs.PlainLaws.{chain-alone, plain-without, plain-idle}
 use Rattle.matching.proofs.Passes.{chain-deep, chain-low, chain-here, found-below, found-here}
 use Rattle.matching.proofs.PathLaws.{path-same, told-same, kept-wide, kept-both, kept-one, joint, path-tree, on-first, within-down, path-down}
 
@@ -111,26 +112,39 @@ module _ (ws rl td tl : List ℕ) (k : Ready ws rl td tl) (asked rs ls : List �
     kept-path : Keep asked us l
     kept-path i o = x .keep i (omega (arith, s .few))
 
-    -- an idle tree
-    pub idle-through : (r : ℕ) → 1 ≤ r → Idle ws rl td tl us z first r → (ms : List ℕ) → Blank ls first r l ms → TreePass r us rs ms
-    idle-through r some idle ms p =
-        without-through r e (λ o. without (chain asked 0) 0 o (s .path .rows 0 o) (omega arith, refl)) us rs ms
-        (λ y a c i v m n o. rw (p .none (omega (arith, o .few)) y a (omega (arith, e)))
-        (λ h. absurd (without v (o .nth) (o .few) (o .row) (o .on) (y, omega arith, c, h)), λ f w. absurd (omega arith)))
-        (p .kept) (idle-ends ws rl td tl k asked rs base q first b h fits us z x chains none)
-      where
-        e : r ≡ last
-        e = idle .last some
+    -- a tree of one label that gives the chains asked no more than its first row alone
+    module _ (r : ℕ) (some : 1 ≤ r) (joins : Bool) (plain : PlainTree ws rl td tl us z first r joins) where
+      abbrev name : ℕ
+      name = at tl (suc first)
 
-        chains : Asked (length rd) us z
-        chains = chains-more ws rl td tl k asked rs base q first b h fits kids us z x
+      plain-last : r ≡ last
+      plain-last = plain .tree .last some
 
-        none : (y : ℕ) → first < y → y ≤ last → LeafAsked ws rl us z (at tl y) → ⊥
-        none y a c = idle .none some y a (omega (arith, e))
+      chains : Asked (length rd) us z
+      chains = chains-more ws rl td tl k asked rs base q first b h fits kids us z x
 
-        without : (v j : ℕ) → j < l → Row rd v → Chained rd (chain asked j) v → Within Fit rd td v (suc first) → ⊥
-        without v j o r c =
-            idle-without ws rl td tl k asked rs base q first b h fits us z x chains none j v (omega (arith, x .least, s .few)) r (rw (kept-path j o) c)
+      one-name : (y : ℕ) → first < y → y ≤ last → at tl y ≡ name
+      one-name y a c = plain .tree .same some y a (omega (arith, plain-last))
+
+      with-path : (v j : ℕ) → j < l → Row rd v → 1 ≤ descendants rd v → Chained rd (chain asked j) v → Within Fit rd td v (suc first) → ⊥
+      with-path v j o r n c =
+          plain-without ws rl td tl k first h one-name us z chains (plain .alone some) j v (omega (arith, x .least, s .few)) r n (rw (kept-path j o) c)
+
+      on-chain : (i : ℕ) → i < z → alone ws rl name (chain us i) ≡ cornerOf ws rl tl (treeAt td first) (chain us i)
+      on-chain = chain-alone ws rl td tl k first h one-name us z chains (plain .alone some)
+
+      pub plain-through : (ms : List ℕ) → Blank ls first r l ms → (ss : List ℕ) → Written rs base q (joinedAlone ws rl name us rs base) ss → TreePass r us ss ms
+      plain-through ms p ss w =
+          without-through r plain-last (λ o. with-path (chain asked 0) 0 o (s .path .rows 0 o) (s .path .inner 0 o) (omega arith, refl)) us ss ms
+          (λ y a c i v m n o. rw (p .none (omega (arith, o .few)) y a (omega (arith, plain-last)))
+          (λ h. absurd (with-path v (o .nth) (o .few) (o .row) (o .inner) (o .on) (y, omega arith, c, h)), λ f w. absurd (omega arith)))
+          (p .kept) (alone-ends ws rl td tl k asked rs base q first b h fits us (asked-fewer (length rd) us q z (x .least) chains) (x .keep)
+          (λ i o. rw (x .keep i o) at (on-chain i (omega (arith, x .least))))
+          (after-asked x (λ (v : ℕ). alone ws rl name v ≡ cornerOf ws rl tl (treeAt td first) v) on-chain (alone-none ws rl name)) ss w)
+
+      -- where no left-most leaf has the label, nothing is to be written
+      pub plain-still : joins ≡ false → Written rs base q (joinedAlone ws rl name us rs base) rs
+      plain-still e = plain-idle ws rl td tl k asked rs us base q z name x chains (plain .idle some e)
 
     pub sought-below : Sought ws rl us z l
     sought-below = record { some = omega (arith, x .least, s .some); few = omega (arith, x .least, s .few); path = path-same rd asked us l kept-path (s .path) }

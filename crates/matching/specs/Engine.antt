@@ -1,7 +1,9 @@
 -- What the two corner functions do: the corners of the chains asked, of a forest and of a tree that joins. Assumes nothing.
 use mathlib.Core.Path.{_≡_}
+use mathlib.Core.Bool.{Bool, true, false}
 use mathlib.Core.List.{List, [], _∷_}
 use Prim.Native.Nat.{ℕ, suc, _+_, _-_, _≤_, _<_}
+use lib.Dec.{eqb}
 use lib.ListN.{length, getD}
 use Rattle.rows.specs.Limits.{listingRows}
 use Rattle.rows.specs.Rows.{at, descendants, lastRow, Outline, WellFormed}
@@ -89,11 +91,26 @@ pub record Bare (ws td tl : List ℕ) (first r : ℕ) : Type 0 where
 abbrev pub LeafAsked : List ℕ → List ℕ → List ℕ → ℕ → ℕ → Type 0
 LeafAsked ws rl asked z a = (i : ℕ) × (i < z) × (at rl (word 2 ws (chain asked i)) ≡ a)
 
--- the tree of the listing row behind `first` rows is idle if no such leaf has the label of one of its rows: then r is the last of them, or
--- 0. It is always 0 where the tree is not idle
-pub record Idle (ws rl td tl asked : List ℕ) (z first r : ℕ) : Type 0 where
+-- the row that a corner at row v needs next: its right sibling, or else its parent
+abbrev pub nextRow : List ℕ → ℕ → ℕ
+nextRow ws v = elim (eqb (word 1 ws v) 0) [ true ↦ word 0 ws v | false ↦ word 1 ws v ]
+
+-- such a leaf, and the row that it needs next, have the label a
+abbrev pub PairAsked : List ℕ → List ℕ → List ℕ → ℕ → ℕ → Type 0
+PairAsked ws rl asked z a =
+    (i : ℕ) × (i < z) × (at rl (word 2 ws (chain asked i)) ≡ a) × (at rl (nextRow ws (word 2 ws (chain asked i))) ≡ a)
+
+-- the rows of the tree of the listing row behind `first` rows all bear one label: then r is the last of them, or 0. It is always 0 where they
+-- do not
+pub record OneLabel (td tl : List ℕ) (first r : ℕ) : Type 0 where
   pub last : 1 ≤ r → r ≡ lastRow td (suc first)
-  pub none : 1 ≤ r → (y : ℕ) → first < y → y ≤ r → LeafAsked ws rl asked z (at tl y) → ⊥
+  pub same : 1 ≤ r → (y : ℕ) → first < y → y ≤ r → at tl y ≡ at tl (suc first)
+
+-- such a tree gives the first z chains asked no more than its first row alone; where it does not join, it gives them nothing
+pub record PlainTree (ws rl td tl asked : List ℕ) (z first r : ℕ) (joins : Bool) : Type 0 where
+  pub tree : OneLabel td tl first r
+  pub alone : 1 ≤ r → PairAsked ws rl asked z (at tl (suc first)) → ⊥
+  pub idle : 1 ≤ r → joins ≡ false → LeafAsked ws rl asked z (at tl (suc first)) → ⊥
 
 -- t is 0, or the first listing row to close that holds recipe row 1, and then the log tells of its tree and of row 1's chain
 pub record Known (ws rl td tl ls : List ℕ) (t : ℕ) : Type 0 where

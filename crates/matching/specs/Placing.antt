@@ -1,5 +1,4 @@
 -- Where the image of a recipe row is sought, once the rows before it have theirs. Assumes nothing.
-use mathlib.Core.Bool.{Bool, true, false}
 use mathlib.Core.List.{List}
 use Prim.Native.Nat.{ℕ, zero, suc, _≤_}
 use Rattle.rows.specs.Rows.{at, Row, depth, lastRow, closing}
@@ -41,8 +40,3 @@ pub record FirstIn (td : List ℕ) (P : ℕ → Type 0) (lo hi t : ℕ) : Type 0
   pub high : t ≤ hi
   pub holds : P t
   pub first : (y : ℕ) → lo ≤ y → y ≤ hi → P y → closing td t ≤ closing td y
-
--- the row behind r rows if a test of it holds, else h
-abbrev pub latest : Bool → ℕ → ℕ → ℕ
-latest true r h = suc r
-latest false r h = h

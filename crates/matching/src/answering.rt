@@ -2,10 +2,10 @@
 ghost use mathlib.Core.Path.{_≡_};
 ghost use mathlib.Core.Bool.{true};
 ghost use mathlib.Core.Logic.{_↔_};
-ghost use Prim.Native.Nat.{_<_, _≤_};
+ghost use Prim.Native.Nat.{ℕ, _<_, _≤_};
 ghost use lib.Dec.{eqb};
 ghost use lib.ListN.{length};
-ghost use Rattle.rows.specs.Rows.{counted};
+ghost use Rattle.rows.specs.Rows.{at, Row, counted};
 ghost use Rattle.rows.specs.Forest.{forest};
 ghost use Rattle.matching.specs.Answer.{Answers};
 ghost use Rattle.matching.specs.CornerRow.{place, widthAt, rowAt};
@@ -47,6 +47,26 @@ struct Top {
     image: usize,
 }
 
+// The corner of a recipe of one row, with the label `name`: the row itself, where a row of the listing has its label.
+fn only_row(names: &[u32], name: u32) -> Top
+    ensures { λ r. ⌜ (r .image ≡ 0) × (r .corner ≤ 1) × ((1 ≤ r .corner) ↔ ((y : ℕ) × Row (now (names .entry)) y × (name ≡ at (now (names .entry)) y))) ⌝ }
+{
+    let mut i = 0;
+    while i < names.len() {
+        if name == names[i] {
+            return Top {
+                corner: 1,
+                image: 0,
+            };
+        }
+        i += 1;
+    }
+    Top {
+        corner: 0,
+        image: 0,
+    }
+}
+
 // One pass over the listing, in which row 1 alone is asked. A recipe that is one tree, of more than one row, is found when its root is.
 fn top_corner(
     depths: &[u16],
@@ -67,6 +87,9 @@ fn top_corner(
             corner: 0,
             image: 0,
         };
+    }
+    if labels.len() == 1 {
+        return only_row(names, labels[0]);
     }
     asked[0] = 1;
     asked[257] = 0;

@@ -13,23 +13,30 @@ ghost use Rattle.matching.specs.Path.{logBytes, Met, FirstPlace};
 ghost use Rattle.matching.specs.Engine.{Ready, Begins, Sought, Passed, Bare, cornerOf, withTree};
 ghost use Rattle.matching.specs.Room.{roomWords, recipeOf, Written, closed, joined, joinedAlone, Joins};
 use crate::asked::extend;
-use crate::idle::idle_end;
 use crate::joining::close_row;
 use crate::joining::join_alone;
 use crate::joining::join_row;
 use crate::log::write_log;
 use crate::log::write_none;
+use crate::plain::plain_tree;
 use crate::shape::depth_of;
 use crate::shape::is_foreign;
+use crate::shape::parent_of;
 
-// No corners yet: the q words of the room from base on become 0.
-fn clear(room: &mut [u16; 14592], base: usize, q: usize)
-    requires { ⌜ (base + q ≤ roomWords) × (length (now room) ≡ roomWords) ⌝ }
+// No corners yet: the q words of the room from base on become 0. It is read as the parent of row 0: a 0 that stands in the code has the
+// compiler call the C library, which for a few words takes longer than to write them.
+fn clear(shape: &[u16; 1156], room: &mut [u16; 14592], base: usize, q: usize)
+    requires { ⌜ (base + q ≤ roomWords) × (length (now room) ≡ roomWords) × (word 0 (now shape) 0 ≡ 0) ⌝ }
     ensures { λ r. ⌜ Written (now (room .entry)) base q (λ i. 0) (now (room .exit)) ⌝ }
 {
+    let none = parent_of(shape, 0);
+    if q == 1 {
+        room[base] = none;
+        return;
+    }
     let mut i = 0;
     while i < q {
-        room[base + i] = 0;
+        room[base + i] = none;
         i += 1;
     }
 }
@@ -201,10 +208,13 @@ fn tree_corners(
         return bare;
     }
     let z = extend(shape, asked, room, base, q);
-    let idle = idle_end(depths, names, shape, labels, asked, z, first);
-    if idle != 0 {
-        write_none(log, first, idle, k);
-        return idle;
+    let plain = plain_tree(depths, names, shape, labels, asked, z, first);
+    if plain.end != 0 {
+        write_none(log, first, plain.end, k);
+        if plain.joins {
+            join_leaf(shape, labels, names[first], asked, room, base, q);
+        }
+        return plain.end;
     }
     let end = forest_corners(
         depths,
@@ -254,7 +264,7 @@ pub(crate) fn forest_corners(
         (λ i. cornerOf (now (shape .entry)) (now (labels .entry)) (now (names .entry)) (forestAt (now (depths .entry)) first (depth (now (depths .entry)) (suc first))) (chain (now (asked .entry)) i))
         k first (first + size (forestAt (now (depths .entry)) first (depth (now (depths .entry)) (suc first)))) r (now (asked .exit)) (now (room .exit)) (now (log .exit)) ⌝ }
 {
-    clear(room, base, q);
+    clear(shape, room, base, q);
     let mut at = first;
     while at < depths.len() {
         if depths[at] < depths[first] {

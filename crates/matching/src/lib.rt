@@ -2,7 +2,6 @@
 mod answering;
 mod asked;
 mod corners;
-mod idle;
 mod images;
 mod joining;
 mod judging;
@@ -10,6 +9,7 @@ mod leaves;
 mod link;
 mod log;
 mod path;
+mod plain;
 mod seek;
 mod shape;
 mod tables;

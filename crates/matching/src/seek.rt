@@ -1,14 +1,13 @@
 // Where a recipe row goes: the first to close of the listing rows in its window that hold it with all its descendants.
 ghost use mathlib.Core.Path.{_≡_};
-ghost use mathlib.Core.Bool.{true, _&&_};
+ghost use mathlib.Core.Bool.{true};
 ghost use mathlib.Core.Logic.{_↔_};
 ghost use Prim.Native.Nat.{ℕ, suc, _≤_, _<_};
-ghost use lib.Dec.{eqb, leb};
 ghost use lib.ListN.{length};
 ghost use Rattle.rows.specs.Limits.{listingRows};
-ghost use Rattle.rows.specs.Rows.{at, depth, Outline};
+ghost use Rattle.rows.specs.Rows.{at, WellFormed};
 ghost use Rattle.rows.specs.Embedding.{SameLabel};
-ghost use Rattle.matching.specs.Placing.{HeldDeep, FirstIn, latest};
+ghost use Rattle.matching.specs.Placing.{HeldDeep, FirstIn};
 ghost use Rattle.matching.specs.Asked.{chain};
 ghost use Rattle.matching.specs.Path.{logBytes, logged, PathAsked};
 ghost use Rattle.matching.specs.Room.{recipeOf, roomWords};
@@ -17,65 +16,38 @@ ghost use Rattle.matching.specs.Window.{Whole};
 use crate::corners::forest_corners;
 use crate::log::read_log;
 
-// Whether the row behind `passed` rows is past the tree at row `hit`; never where that is 0.
-fn is_past(depths: &[u16], hit: usize, passed: usize) -> bool
-    requires { ⌜ (hit ≤ length (now depths)) × (passed < length (now depths)) ⌝ }
-    ensures { λ r. ⌜ (r ≡ true) ↔ ((1 ≤ hit) × (depth (now (depths .entry)) (suc passed) ≤ depth (now (depths .entry)) hit)) ⌝ }
-{
-    if hit == 0 {
-        return false;
-    }
-    depths[passed] <= depths[hit - 1]
-}
-
-// The row behind `passed` rows if it has the label `name`, else `hit`.
-fn latest_hit(names: &[u32], name: u32, hit: usize, passed: usize) -> usize
-    requires { ⌜ passed < length (now names) ⌝ }
-    ensures { λ r. ⌜ r ≡ latest (eqb name (at (now (names .entry)) (suc passed))) passed hit ⌝ }
-{
-    if name == names[passed] {
-        return passed + 1;
-    }
-    hit
-}
-
 // Of the rows behind `from` rows, some of which have the label `name`, the first of these to close: the first row that has it,
-// then the first below that one, as long as there is one.
+// then the first below that one, as long as there is one. A row shallower than `stop` is not below the row come upon.
 pub(crate) fn seek_label(depths: &[u16], names: &[u32], name: u32, from: usize) -> usize
-    requires { ⌜ Outline (now depths) × (length (now names) ≡ length (now depths)) ⌝ }
+    requires { ⌜ WellFormed (now depths) × (length (now names) ≡ length (now depths)) ⌝ }
     requires { ⌜ ((y : ℕ) × (suc from ≤ y) × (y ≤ length (now depths)) × (name ≡ at (now names) y)) ⌝ }
     ensures { λ r. ⌜ FirstIn (now (depths .entry)) (λ t. name ≡ at (now (names .entry)) t) (suc from) (length (now (depths .entry))) r ⌝ }
 {
     let mut hit = 0;
+    let mut stop: u16 = 0;
     let mut at = from;
     while at < depths.len() {
-        if is_past(depths, hit, at) {
+        if depths[at] < stop {
             return hit;
         }
-        hit = latest_hit(names, name, hit, at);
+        if name == names[at] {
+            hit = at + 1;
+            stop = depths[at] + 1;
+        }
         at += 1;
     }
     hit
 }
 
-// The row behind `passed` rows if it has the label `name` and the log has at most `mark` for it, else `hit`.
-fn latest_logged(
-    names: &[u32],
-    name: u32,
-    log: &[u8; 2048],
-    mark: u16,
-    hit: usize,
-    passed: usize,
-) -> usize
+// Whether the row behind `passed` rows has the label `name`, and at most `mark` in the log.
+fn is_logged(names: &[u32], name: u32, log: &[u8; 2048], mark: u16, passed: usize) -> bool
     requires { ⌜ (passed < listingRows) × (passed < length (now names)) ⌝ }
-    ensures { λ r. ⌜ r ≡ latest (eqb name (at (now (names .entry)) (suc passed)) && leb (logged (now (log .entry)) (suc passed)) mark) passed hit ⌝ }
+    ensures { λ r. ⌜ (r ≡ true) ↔ ((name ≡ at (now (names .entry)) (suc passed)) × (logged (now (log .entry)) (suc passed) ≤ mark)) ⌝ }
 {
     if name == names[passed] {
-        if read_log(log, passed) <= mark {
-            return passed + 1;
-        }
+        return read_log(log, passed) <= mark;
     }
-    hit
+    false
 }
 
 // Of the rows behind `from` rows, some of which have the label `name` and at most `mark` in the log, the first of these to close.
@@ -87,18 +59,22 @@ pub(crate) fn seek_logged(
     mark: u16,
     from: usize,
 ) -> usize
-    requires { ⌜ Outline (now depths) × (length (now depths) ≤ listingRows) × (length (now names) ≡ length (now depths)) ⌝ }
+    requires { ⌜ WellFormed (now depths) × (length (now depths) ≤ listingRows) × (length (now names) ≡ length (now depths)) ⌝ }
     requires { ⌜ ((y : ℕ) × (suc from ≤ y) × (y ≤ length (now depths)) × (name ≡ at (now names) y) × (logged (now log) y ≤ mark)) ⌝ }
     ensures { λ r. ⌜ FirstIn (now (depths .entry)) (λ t. (name ≡ at (now (names .entry)) t) × (logged (now (log .entry)) t ≤ mark)) (suc from) (length (now (depths .entry))) r ⌝ }
 {
     let mut hit = 0;
-    let mut at = from;
-    while at < depths.len() {
-        if is_past(depths, hit, at) {
+    let mut stop: u16 = 0;
+    let mut passed = from;
+    while passed < depths.len() {
+        if depths[passed] < stop {
             return hit;
         }
-        hit = latest_logged(names, name, log, mark, hit, at);
-        at += 1;
+        if is_logged(names, name, log, mark, passed) {
+            hit = passed + 1;
+            stop = depths[passed] + 1;
+        }
+        passed += 1;
     }
     hit
 }

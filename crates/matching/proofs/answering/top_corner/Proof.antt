@@ -8,7 +8,7 @@ use Rattle.matching.specs.Room.{recipeOf, sameLabel}
 use Rattle.matching.specs.Engine.{cornerOf}
 use Rattle.matching.proofs.CornerRow.{corner-nothing}
 use Rattle.matching.proofs.Alone.{forest-none}
-use Rattle.matching.proofs.OnlyRoot.{known-none, first-sought, first-begins, first-through, first-found}
+use Rattle.matching.proofs.OnlyRoot.{one-row-corner, known-none, first-sought, first-begins, first-through, first-found}
 use borrow.Author.Needs.{needs}
 use Rattle.matching.proofs.answering.top_corner.Statement.{statement}
 use Rattle.matching.proofs.answering.top_corner.Tie as tie
@@ -25,6 +25,20 @@ returns c =
       start .pre .1,
     )
 
+shared-slice-read-only-row : tie.Need-shared-slice-read-only-row
+shared-slice-read-only-row c = search needs
+
+only-row-requires : tie.Need-only-row-requires
+only-row-requires c κs = search needs
+
+returns-2 : tie.Need-returns-2
+returns-2 c =
+    let start = c .before .before .before .before .before .before .before in
+    let a = start .args in
+    let f = c .only-row .ensures in
+    let e = one-row-corner (a .shape .now) (a .labels .now) (a .depths .now) (a .names .now) (start .pre .0 .0) (c .before .before .if2 .taken) _ (f .1) (f .2) in
+    ((e, rw (f .0) known-none), start .pre .1)
+
 element-write-asked : tie.Need-element-write-asked
 element-write-asked c = search needs
 
@@ -37,7 +51,7 @@ sought-rows-requires c κs = search needs
 forest-corners-requires : tie.Need-forest-corners-requires
 forest-corners-requires c κs =
     let sought = c .before .before .before in
-    let left = sought .before in
+    let left = sought .before .before in
     let start = left .before .before .before .before in
     let g = start .pre in
     let f = sought .sought-rows .ensures in (
@@ -45,30 +59,30 @@ forest-corners-requires c κs =
       (first-begins (g .0 .0) (g .0 .1) (start .args .asked .now) (g .1 .0) f (g .1 .1) _, g .1 .2),
     )
 
-sub-t19 : tie.Need-sub-t19
-sub-t19 c = omega (arith, c .if2 .taken)
-
-returns-2 : tie.Need-returns-2
-returns-2 c =
-    let sought = c .before .before .before .before .before in
-    let left = sought .before in
-    let start = left .before .before .before .before in
-    let g = start .pre in
-    let n : 0 < length (start .args .depths .now) = omega (arith, left .if1 .left) in
-    let s = first-found (g .0 .0) (g .0 .1) (start .args .asked .now) (g .1 .0) (sought .sought-rows .ensures) n (c .before .forest-corners .ensures) (c .if2 .taken) in
-    ((s .0, s .1), s .2)
-
-element-copy-out-t22 : tie.Need-element-copy-out-t22
-element-copy-out-t22 c = search needs
+sub-t21 : tie.Need-sub-t21
+sub-t21 c = omega (arith, c .if3 .taken)
 
 returns-3 : tie.Need-returns-3
 returns-3 c =
-    let sought = c .before .before .before .before .before .before in
-    let left = sought .before in
+    let sought = c .before .before .before .before .before in
+    let left = sought .before .before in
     let start = left .before .before .before .before in
     let g = start .pre in
     let n : 0 < length (start .args .depths .now) = omega (arith, left .if1 .left) in
-    let s = first-through (g .0 .0) (g .0 .1) (start .args .asked .now) (g .1 .0) (sought .sought-rows .ensures) n (c .before .before .forest-corners .ensures) (c .before .if2 .left) in
+    let s = first-found (g .0 .0) (g .0 .1) (start .args .asked .now) (g .1 .0) (sought .sought-rows .ensures) n (c .before .forest-corners .ensures) (c .if3 .taken) in
+    ((s .0, s .1), s .2)
+
+element-copy-out-t24 : tie.Need-element-copy-out-t24
+element-copy-out-t24 c = search needs
+
+returns-4 : tie.Need-returns-4
+returns-4 c =
+    let sought = c .before .before .before .before .before .before in
+    let left = sought .before .before in
+    let start = left .before .before .before .before in
+    let g = start .pre in
+    let n : 0 < length (start .args .depths .now) = omega (arith, left .if1 .left) in
+    let s = first-through (g .0 .0) (g .0 .1) (start .args .asked .now) (g .1 .0) (sought .sought-rows .ensures) n (c .before .before .forest-corners .ensures) (c .before .if3 .left) in
     ((s .0, known-none), s .1)
 
 pub top-corner-spec : {M : Type 1} → statement M
@@ -76,11 +90,14 @@ top-corner-spec =
     tie.close
     (tie.spec
     returns
+    shared-slice-read-only-row
+    only-row-requires
+    returns-2
     element-write-asked
     element-write-asked-2
     sought-rows-requires
     forest-corners-requires
-    sub-t19
-    returns-2
-    element-copy-out-t22
-    returns-3)
+    sub-t21
+    returns-3
+    element-copy-out-t24
+    returns-4)

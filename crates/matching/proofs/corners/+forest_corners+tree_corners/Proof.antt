@@ -6,7 +6,7 @@ use Rattle.rows.proofs.Depths.{last-fits}
 use Rattle.matching.proofs.AskedLaws.{asked-more}
 use Rattle.matching.proofs.PathLaws.{place-most}
 use Rattle.matching.proofs.TreeJoins.{level-room, few, extend-fits, more-rows, z-few, chains-more, begins-below, z-room, close-fits, tree-joins}
-use Rattle.matching.proofs.TreePass.{belowEnd, BelowThrough, bare-through, idle-through, sought-below, below-found, below-fits, tree-found, tree-through}
+use Rattle.matching.proofs.TreePass.{belowEnd, BelowThrough, bare-through, plain-through, plain-still, sought-below, below-found, below-fits, tree-found, tree-through}
 use Prim.Native.Nat.{suc, _≤_, _+_, _-_, _*_}
 use mathlib.Core.Path.{_≡_, _∙_}
 use native.Mathlib.Omega.{arith}
@@ -29,9 +29,9 @@ use Rattle.matching.proofs.corners.close_asked.Reads as close-asked-rea
 use Rattle.matching.proofs.corners.first_place.Reads as first-place-reads
 use Rattle.matching.proofs.corners.join_asked.Reads as join-asked-reads
 use Rattle.matching.proofs.corners.join_leaf.Reads as join-leaf-reads
-use Rattle.matching.proofs.idle.idle_end.Reads as idle-end-reads
 use Rattle.matching.proofs.log.write_log.Reads as write-log-reads
 use Rattle.matching.proofs.log.write_none.Reads as write-none-reads
+use Rattle.matching.proofs.plain.plain_tree.Reads as plain-tree-reads
 use Rattle.matching.proofs.shape.is_foreign.Reads as is-foreign-reads
 use Rattle.matching.proofs.corners.+forest_corners+tree_corners.{statement}
 use Rattle.matching.proofs.corners.+forest_corners+tree_corners.Tie.{close}
@@ -75,8 +75,8 @@ tree-claims t = (
   join-leaf-reads.Learnt,
   extend-reads.Asked,
   extend-reads.Learnt,
-  idle-end-reads.Asked,
-  idle-end-reads.Learnt,
+  plain-tree-reads.Asked,
+  plain-tree-reads.Learnt,
   write-none-reads.Asked,
   write-none-reads.Learnt,
   forest-corners-below t,
@@ -100,13 +100,13 @@ forest-corners-clear-requires : (t : ℕ) → forest-corners-lts.Need-clear-requ
 forest-corners-clear-requires t c κs =
     let start = c .before .before .before .before in
     let a = start .args in
-    (level-room (a .shape .now) (a .labels .now) (a .depths .now) (a .names .now) (start .pre .1 .0 .0) (a .asked .now) (a .room .now) (a .base) (a .q) (a .first) (start .pre .1 .1 .0) (start .pre .1 .0 .1), start .pre .1 .1 .0 .words)
+    (level-room (a .shape .now) (a .labels .now) (a .depths .now) (a .names .now) (start .pre .1 .0 .0) (a .asked .now) (a .room .now) (a .base) (a .q) (a .first) (start .pre .1 .1 .0) (start .pre .1 .0 .1), start .pre .1 .1 .0 .words, start .pre .1 .0 .0 .shape .parents 0 (omega arith))
 
 forest-corners-loop-holds : (t : ℕ) → forest-corners-lts.Need-loop-holds (forest-claims t) (forest-corners-at t) forest-corners.Post forest-corners-Inv-loop forest-corners-μ-loop
 forest-corners-loop-holds t c =
     let start = c .before .before .before .before .before in
     let a = start .args in
-    turn-none (a .shape .now) (a .labels .now) (a .depths .now) (a .names .now) (start .pre .1 .0 .0) (a .asked .now) (a .room .now) (a .log .now) (a .base) (a .q) (a .k) (a .first) (start .pre .1 .1 .0) (start .pre .1 .0 .1) (start .pre .1 .0 .2) (start .pre .1 .1 .1) (c .clear .last .0) (c .clear .ensures)
+    turn-none (a .shape .now) (a .labels .now) (a .depths .now) (a .names .now) (start .pre .1 .0 .0) (a .asked .now) (a .room .now) (a .log .now) (a .base) (a .q) (a .k) (a .first) (start .pre .1 .1 .0) (start .pre .1 .0 .1) (start .pre .1 .0 .2) (start .pre .1 .1 .1) (c .clear .last .1 .0) (c .clear .ensures)
 
 forest-corners-mul-if1 : (t : ℕ) → forest-corners-lts.Need-mul-if1 (forest-claims t) (forest-corners-at t) forest-corners.Post forest-corners-Inv-loop forest-corners-μ-loop
 forest-corners-mul-if1 t c = omega arith
@@ -126,7 +126,7 @@ forest-corners-returns t c =
     let start = turn .before .before .before .before .before .before in
     let a = start .args in
     let cleared = turn .before .clear in
-    turn-end (a .shape .now) (a .labels .now) (a .depths .now) (a .names .now) (start .pre .1 .0 .0) (a .asked .now) (a .room .now) (a .log .now) (a .base) (a .q) (a .k) (a .first) (start .pre .1 .1 .0) (start .pre .1 .0 .1) (start .pre .1 .0 .2) (start .pre .1 .1 .1) (cleared .last .0) (cleared .ensures) (turn .loop .asked) (turn .loop .room) (turn .loop .log) (turn .loop .at) (turn .loop .inv) (λ l. omega (arith, c .if1 .taken))
+    turn-end (a .shape .now) (a .labels .now) (a .depths .now) (a .names .now) (start .pre .1 .0 .0) (a .asked .now) (a .room .now) (a .log .now) (a .base) (a .q) (a .k) (a .first) (start .pre .1 .1 .0) (start .pre .1 .0 .1) (start .pre .1 .0 .2) (start .pre .1 .1 .1) (cleared .last .1 .0) (cleared .ensures) (turn .loop .asked) (turn .loop .room) (turn .loop .log) (turn .loop .at) (turn .loop .inv) (λ l. omega (arith, c .if1 .taken))
 
 forest-corners-mul-is-foreign : (t : ℕ) → forest-corners-lts.Need-mul-is-foreign (forest-claims t) (forest-corners-at t) forest-corners.Post forest-corners-Inv-loop forest-corners-μ-loop
 forest-corners-mul-is-foreign t c = omega (arith, c .before .before .before .before .before .before .before .before .before .before .pre .1 .0 .0 .names)
@@ -151,7 +151,7 @@ forest-corners-loop-again t c =
     let cleared = turn .before .clear in
     let inside = c .before .before .before .before .before .before .loop-test .taken in
     let low : turn .loop .at ≤ listingRows = omega (arith, inside, start .pre .1 .0 .0 .few) in
-    rw (add-one (turn .loop .at)) (turn-struck (a .shape .now) (a .labels .now) (a .depths .now) (a .names .now) (start .pre .1 .0 .0) (a .asked .now) (a .room .now) (a .log .now) (a .base) (a .q) (a .k) (a .first) (start .pre .1 .1 .0) (start .pre .1 .0 .1) (start .pre .1 .0 .2) (start .pre .1 .1 .1) (cleared .last .0) (cleared .ensures) (turn .loop .asked) (turn .loop .room) (turn .loop .log) (turn .loop .at) (turn .loop .inv) low (omega (arith, inside)) (omega (arith, c .before .before .before .if1 .left)) (c .before .is-foreign .ensures .0 (c .if2 .taken)))
+    rw (add-one (turn .loop .at)) (turn-struck (a .shape .now) (a .labels .now) (a .depths .now) (a .names .now) (start .pre .1 .0 .0) (a .asked .now) (a .room .now) (a .log .now) (a .base) (a .q) (a .k) (a .first) (start .pre .1 .1 .0) (start .pre .1 .0 .1) (start .pre .1 .0 .2) (start .pre .1 .1 .1) (cleared .last .1 .0) (cleared .ensures) (turn .loop .asked) (turn .loop .room) (turn .loop .log) (turn .loop .at) (turn .loop .inv) low (omega (arith, inside)) (omega (arith, c .before .before .before .if1 .left)) (c .before .is-foreign .ensures .0 (c .if2 .taken)))
 
 forest-corners-tree-corners-requires : (t : ℕ) → forest-corners-lts.Need-tree-corners-requires (forest-claims t) (forest-corners-at t) forest-corners.Post forest-corners-Inv-loop forest-corners-μ-loop
 forest-corners-tree-corners-requires t c κs =
@@ -164,10 +164,10 @@ forest-corners-tree-corners-requires t c κs =
     let so = turn .loop .inv .so low in (
       omega (arith, start .pre .0, so .start, inside),
       (
-        (start .pre .1 .0 .0, omega (arith, inside), so-sought (a .shape .now) (a .labels .now) (a .depths .now) (a .names .now) (start .pre .1 .0 .0) (a .asked .now) (a .room .now) (a .log .now) (a .base) (a .q) (a .k) (a .first) (start .pre .1 .1 .0) (start .pre .1 .0 .1) (start .pre .1 .0 .2) (start .pre .1 .1 .1) (cleared .last .0) (cleared .ensures) (turn .loop .asked) (turn .loop .room) (turn .loop .log) (turn .loop .at) (turn .loop .inv) low),
+        (start .pre .1 .0 .0, omega (arith, inside), so-sought (a .shape .now) (a .labels .now) (a .depths .now) (a .names .now) (start .pre .1 .0 .0) (a .asked .now) (a .room .now) (a .log .now) (a .base) (a .q) (a .k) (a .first) (start .pre .1 .1 .0) (start .pre .1 .0 .1) (start .pre .1 .0 .2) (start .pre .1 .1 .1) (cleared .last .1 .0) (cleared .ensures) (turn .loop .asked) (turn .loop .room) (turn .loop .log) (turn .loop .at) (turn .loop .inv) low),
         (
-          (so-begins (a .shape .now) (a .labels .now) (a .depths .now) (a .names .now) (start .pre .1 .0 .0) (a .asked .now) (a .room .now) (a .log .now) (a .base) (a .q) (a .k) (a .first) (start .pre .1 .1 .0) (start .pre .1 .0 .1) (start .pre .1 .0 .2) (start .pre .1 .1 .1) (cleared .last .0) (cleared .ensures) (turn .loop .asked) (turn .loop .room) (turn .loop .log) (turn .loop .at) (turn .loop .inv) low (omega (arith, inside)) (omega (arith, c .before .before .before .before .before .before .if1 .left)), so .kept .size),
-          so-fits (a .shape .now) (a .labels .now) (a .depths .now) (a .names .now) (start .pre .1 .0 .0) (a .asked .now) (a .room .now) (a .log .now) (a .base) (a .q) (a .k) (a .first) (start .pre .1 .1 .0) (start .pre .1 .0 .1) (start .pre .1 .0 .2) (start .pre .1 .1 .1) (cleared .last .0) (cleared .ensures) (turn .loop .asked) (turn .loop .room) (turn .loop .log) (turn .loop .at) (turn .loop .inv) low,
+          (so-begins (a .shape .now) (a .labels .now) (a .depths .now) (a .names .now) (start .pre .1 .0 .0) (a .asked .now) (a .room .now) (a .log .now) (a .base) (a .q) (a .k) (a .first) (start .pre .1 .1 .0) (start .pre .1 .0 .1) (start .pre .1 .0 .2) (start .pre .1 .1 .1) (cleared .last .1 .0) (cleared .ensures) (turn .loop .asked) (turn .loop .room) (turn .loop .log) (turn .loop .at) (turn .loop .inv) low (omega (arith, inside)) (omega (arith, c .before .before .before .before .before .before .if1 .left)), so .kept .size),
+          so-fits (a .shape .now) (a .labels .now) (a .depths .now) (a .names .now) (start .pre .1 .0 .0) (a .asked .now) (a .room .now) (a .log .now) (a .base) (a .q) (a .k) (a .first) (start .pre .1 .1 .0) (start .pre .1 .0 .1) (start .pre .1 .0 .2) (start .pre .1 .1 .1) (cleared .last .1 .0) (cleared .ensures) (turn .loop .asked) (turn .loop .room) (turn .loop .log) (turn .loop .at) (turn .loop .inv) low,
         ),
       ),
     )
@@ -181,7 +181,7 @@ forest-corners-loop-less-2 t c =
     let inside = c .before .before .before .before .before .before .before .before .before .before .loop-test .taken in
     let low : turn .loop .at ≤ listingRows = omega (arith, inside, start .pre .1 .0 .0 .few) in
     let call = c .tree-corners in
-    turn-less (a .shape .now) (a .labels .now) (a .depths .now) (a .names .now) (start .pre .1 .0 .0) (a .asked .now) (a .room .now) (a .log .now) (a .base) (a .q) (a .k) (a .first) (start .pre .1 .1 .0) (start .pre .1 .0 .1) (start .pre .1 .0 .2) (start .pre .1 .1 .1) (cleared .last .0) (cleared .ensures) (turn .loop .asked) (turn .loop .room) (turn .loop .log) (turn .loop .at) (turn .loop .inv) low (omega (arith, inside)) (omega (arith, c .before .before .before .before .before .before .before .if1 .left)) (call .result) (call .last .1 .1 .1 .1 .0) (call .last .1 .1 .1 .1 .1 .0) (call .last .1 .1 .1 .1 .1 .1 .0) (call .ensures)
+    turn-less (a .shape .now) (a .labels .now) (a .depths .now) (a .names .now) (start .pre .1 .0 .0) (a .asked .now) (a .room .now) (a .log .now) (a .base) (a .q) (a .k) (a .first) (start .pre .1 .1 .0) (start .pre .1 .0 .1) (start .pre .1 .0 .2) (start .pre .1 .1 .1) (cleared .last .1 .0) (cleared .ensures) (turn .loop .asked) (turn .loop .room) (turn .loop .log) (turn .loop .at) (turn .loop .inv) low (omega (arith, inside)) (omega (arith, c .before .before .before .before .before .before .before .if1 .left)) (call .result) (call .last .1 .1 .1 .1 .0) (call .last .1 .1 .1 .1 .1 .0) (call .last .1 .1 .1 .1 .1 .1 .0) (call .ensures)
 
 forest-corners-loop-again-2 : (t : ℕ) → forest-corners-lts.Need-loop-again-2 (forest-claims t) (forest-corners-at t) forest-corners.Post forest-corners-Inv-loop forest-corners-μ-loop
 forest-corners-loop-again-2 t c =
@@ -192,7 +192,7 @@ forest-corners-loop-again-2 t c =
     let inside = c .before .before .before .before .before .before .before .before .before .before .loop-test .taken in
     let low : turn .loop .at ≤ listingRows = omega (arith, inside, start .pre .1 .0 .0 .few) in
     let call = c .tree-corners in
-    turn-one (a .shape .now) (a .labels .now) (a .depths .now) (a .names .now) (start .pre .1 .0 .0) (a .asked .now) (a .room .now) (a .log .now) (a .base) (a .q) (a .k) (a .first) (start .pre .1 .1 .0) (start .pre .1 .0 .1) (start .pre .1 .0 .2) (start .pre .1 .1 .1) (cleared .last .0) (cleared .ensures) (turn .loop .asked) (turn .loop .room) (turn .loop .log) (turn .loop .at) (turn .loop .inv) low (omega (arith, inside)) (omega (arith, c .before .before .before .before .before .before .before .if1 .left)) (call .result) (call .last .1 .1 .1 .1 .0) (call .last .1 .1 .1 .1 .1 .0) (call .last .1 .1 .1 .1 .1 .1 .0) (call .ensures)
+    turn-one (a .shape .now) (a .labels .now) (a .depths .now) (a .names .now) (start .pre .1 .0 .0) (a .asked .now) (a .room .now) (a .log .now) (a .base) (a .q) (a .k) (a .first) (start .pre .1 .1 .0) (start .pre .1 .0 .1) (start .pre .1 .0 .2) (start .pre .1 .1 .1) (cleared .last .1 .0) (cleared .ensures) (turn .loop .asked) (turn .loop .room) (turn .loop .log) (turn .loop .at) (turn .loop .inv) low (omega (arith, inside)) (omega (arith, c .before .before .before .before .before .before .before .if1 .left)) (call .result) (call .last .1 .1 .1 .1 .0) (call .last .1 .1 .1 .1 .1 .0) (call .last .1 .1 .1 .1 .1 .1 .0) (call .ensures)
 
 forest-corners-returns-2 : (t : ℕ) → forest-corners-lts.Need-returns-2 (forest-claims t) (forest-corners-at t) forest-corners.Post forest-corners-Inv-loop forest-corners-μ-loop
 forest-corners-returns-2 t c =
@@ -200,7 +200,7 @@ forest-corners-returns-2 t c =
     let start = turn .before .before .before .before .before .before in
     let a = start .args in
     let cleared = turn .before .clear in
-    turn-end (a .shape .now) (a .labels .now) (a .depths .now) (a .names .now) (start .pre .1 .0 .0) (a .asked .now) (a .room .now) (a .log .now) (a .base) (a .q) (a .k) (a .first) (start .pre .1 .1 .0) (start .pre .1 .0 .1) (start .pre .1 .0 .2) (start .pre .1 .1 .1) (cleared .last .0) (cleared .ensures) (turn .loop .asked) (turn .loop .room) (turn .loop .log) (turn .loop .at) (turn .loop .inv) (λ l. absurd (omega (arith, c .loop-test .left)))
+    turn-end (a .shape .now) (a .labels .now) (a .depths .now) (a .names .now) (start .pre .1 .0 .0) (a .asked .now) (a .room .now) (a .log .now) (a .base) (a .q) (a .k) (a .first) (start .pre .1 .1 .0) (start .pre .1 .0 .1) (start .pre .1 .0 .2) (start .pre .1 .1 .1) (cleared .last .1 .0) (cleared .ensures) (turn .loop .asked) (turn .loop .room) (turn .loop .log) (turn .loop .at) (turn .loop .inv) (λ l. absurd (omega (arith, c .loop-test .left)))
 
 -- the row is bare, or has rows below it
 bare-rows : (t : ℕ) (c : tree-corners-lts.Then1 (tree-claims t) (tree-corners-at t) tree-corners.Post) → 1 ≤ c .before .bare-end .result
@@ -210,9 +210,9 @@ some-rows : (t : ℕ) (c : tree-corners-lts.Else1 (tree-claims t) (tree-corners-
 some-rows t c = c .before .bare-end .ensures .more (c .if1 .left)
 
 -- the pass over the rows below went through
-through : (t : ℕ) (c : tree-corners-lts.Else3 (tree-claims t) (tree-corners-at t) tree-corners.Post) → let call = c .before .forest-corners in let ext = c .before .before .before .before .before .before .before .before in let els = ext .before .before .before in let start = els .before .before .before .before .before in let a = start .args in
+through : (t : ℕ) (c : tree-corners-lts.Else4 (tree-claims t) (tree-corners-at t) tree-corners.Post) → let call = c .before .forest-corners in let ext = c .before .before .before .before .before .before .before .before .before in let els = ext .before .before .before in let start = els .before .before .before .before .before in let a = start .args in
     (call .result ≡ belowEnd (a .shape .now) (a .labels .now) (a .depths .now) (a .names .now) (start .pre .1 .0 .0) (a .asked .now) (a .room .now) (a .log .now) (a .base) (a .q) (a .k) (a .first) (start .pre .1 .1 .0 .0) (start .pre .1 .0 .1) (start .pre .1 .0 .2) (start .pre .1 .1 .0 .1) (start .pre .1 .1 .1) (some-rows t els) (ext .extend .last .1 .0) (ext .extend .result) (ext .extend .ensures)) × BelowThrough (a .shape .now) (a .labels .now) (a .depths .now) (a .names .now) (start .pre .1 .0 .0) (a .asked .now) (a .room .now) (a .log .now) (a .base) (a .q) (a .k) (a .first) (start .pre .1 .1 .0 .0) (start .pre .1 .0 .1) (start .pre .1 .0 .2) (start .pre .1 .1 .0 .1) (start .pre .1 .1 .1) (some-rows t els) (ext .extend .last .1 .0) (ext .extend .result) (ext .extend .ensures) (call .last .1 .1 .1 .1 .0) (call .last .1 .1 .1 .1 .1 .0) (call .last .1 .1 .1 .1 .1 .1 .0)
-through t c = (rw add-one at (c .before .forest-corners .ensures)) .through (omega (arith, c .if3 .left))
+through t c = (rw add-one at (c .before .forest-corners .ensures)) .through (omega (arith, c .if4 .left))
 
 tree-corners-bare-end-requires : (t : ℕ) → tree-corners-lts.Need-bare-end-requires (tree-claims t) (tree-corners-at t) tree-corners.Post
 tree-corners-bare-end-requires t c κs =
@@ -261,8 +261,8 @@ tree-corners-extend-requires t c κs =
     let a = start .args in
     ((level-room (a .shape .now) (a .labels .now) (a .depths .now) (a .names .now) (start .pre .1 .0 .0) (a .asked .now) (a .room .now) (a .base) (a .q) (a .first) (start .pre .1 .1 .0 .0) (start .pre .1 .0 .1), asked-more _ 256 (a .asked .now) (a .q) (start .pre .1 .0 .0 .shape .few) (start .pre .1 .1 .0 .0 .chains)), extend-fits (a .shape .now) (a .labels .now) (a .depths .now) (a .names .now) (start .pre .1 .0 .0) (a .asked .now) (a .room .now) (a .base) (a .q) (a .first) (start .pre .1 .1 .0 .0) (start .pre .1 .0 .1) (start .pre .1 .1 .1))
 
-tree-corners-idle-end-requires : (t : ℕ) → tree-corners-lts.Need-idle-end-requires (tree-claims t) (tree-corners-at t) tree-corners.Post
-tree-corners-idle-end-requires t c κs =
+tree-corners-plain-tree-requires : (t : ℕ) → tree-corners-lts.Need-plain-tree-requires (tree-claims t) (tree-corners-at t) tree-corners.Post
+tree-corners-plain-tree-requires t c κs =
     let ext = c .before in
     let els = ext .before .before .before in
     let start = els .before .before .before .before .before in
@@ -275,15 +275,42 @@ tree-corners-idle-end-requires t c κs =
 
 tree-corners-write-none-requires : (t : ℕ) → tree-corners-lts.Need-write-none-requires (tree-claims t) (tree-corners-at t) tree-corners.Post
 tree-corners-write-none-requires t c κs =
-    let start = c .before .before .before .before .before .before .before .before .before .before .before .before in
+    let start = c .before .before .before .before .before .before .before .before .before .before .before .before .before in
     let a = start .args in
-    let e = c .before .before .idle-end .ensures .last (omega (arith, c .before .if2 .taken)) in
+    let e = c .before .before .before .plain-tree .ensures .tree .last (omega (arith, c .before .if2 .taken)) in
     let l = last-fits (a .depths .now) (suc (a .first)) (omega (arith, start .pre .1 .0 .1)) in
     (omega (arith, e), omega (arith, e, l, start .pre .1 .0 .0 .few), start .pre .1 .1 .0 .1)
 
+tree-corners-mul-join-leaf-2 : (t : ℕ) → tree-corners-lts.Need-mul-join-leaf-2 (tree-claims t) (tree-corners-at t) tree-corners.Post
+tree-corners-mul-join-leaf-2 t c =
+    let start = c .before .before .before .before .before .before .before .before .before .before .before .before .before .before .before in
+    omega (arith, start .pre .1 .0 .0 .names, start .pre .1 .0 .1)
+
+tree-corners-shared-slice-read-join-leaf-2 : (t : ℕ) → tree-corners-lts.Need-shared-slice-read-join-leaf-2 (tree-claims t) (tree-corners-at t) tree-corners.Post
+tree-corners-shared-slice-read-join-leaf-2 t c =
+    let start = c .before .before .before .before .before .before .before .before .before .before .before .before .before .before .before .before in
+    omega (arith, start .pre .1 .0 .0 .names, start .pre .1 .0 .1)
+
+tree-corners-join-leaf-requires-2 : (t : ℕ) → tree-corners-lts.Need-join-leaf-requires-2 (tree-claims t) (tree-corners-at t) tree-corners.Post
+tree-corners-join-leaf-requires-2 t c κs =
+    let ext = c .before .before .before .before .before .before .before .before .before .before in
+    let els = ext .before .before .before in
+    let start = els .before .before .before .before .before in
+    let a = start .args in
+    let m = some-rows t els in
+    let us = ext .extend .last .1 .0 in
+    let z = ext .extend .result in
+    let x = ext .extend .ensures in (
+      start .pre .1 .0 .0 .shape,
+      (
+        (level-room (a .shape .now) (a .labels .now) (a .depths .now) (a .names .now) (start .pre .1 .0 .0) (a .asked .now) (a .room .now) (a .base) (a .q) (a .first) (start .pre .1 .1 .0 .0) (start .pre .1 .0 .1), start .pre .1 .1 .0 .0 .words, omega (arith, few (a .shape .now) (a .labels .now) (a .depths .now) (a .names .now) (start .pre .1 .0 .0) (a .asked .now) (a .room .now) (a .base) (a .q) (a .first) (start .pre .1 .1 .0 .0) (start .pre .1 .0 .1), start .pre .1 .0 .0 .shape .few)),
+        λ i l. rw (x .keep i l) (start .pre .1 .1 .1 i l),
+      ),
+    )
+
 tree-corners-returns-2 : (t : ℕ) → tree-corners-lts.Need-returns-2 (tree-claims t) (tree-corners-at t) tree-corners.Post
 tree-corners-returns-2 t c =
-    let ext = c .before .before .before .before .before in
+    let ext = c .before .before .before .before .before .before .before .before .before .before .before in
     let els = ext .before .before .before in
     let start = els .before .before .before .before .before in
     let a = start .args in
@@ -291,12 +318,29 @@ tree-corners-returns-2 t c =
     let us = ext .extend .last .1 .0 in
     let z = ext .extend .result in
     let x = ext .extend .ensures in
-    let idle = c .before .before .before .idle-end in
-    idle-through (a .shape .now) (a .labels .now) (a .depths .now) (a .names .now) (start .pre .1 .0 .0) (a .asked .now) (a .room .now) (a .log .now) (a .base) (a .q) (a .k) (a .first) (start .pre .1 .1 .0 .0) (start .pre .1 .0 .1) (start .pre .1 .0 .2) (start .pre .1 .1 .0 .1) (start .pre .1 .1 .1) m us z x (idle .result) (omega (arith, c .before .before .if2 .taken)) (idle .ensures) (c .write-none .last .0) (c .write-none .ensures)
+    let tree = c .before .before .before .before .before .before .before .before .before .plain-tree in
+    let none = c .before .before .before .before .before .write-none in
+    plain-through (a .shape .now) (a .labels .now) (a .depths .now) (a .names .now) (start .pre .1 .0 .0) (a .asked .now) (a .room .now) (a .log .now) (a .base) (a .q) (a .k) (a .first) (start .pre .1 .1 .0 .0) (start .pre .1 .0 .1) (start .pre .1 .0 .2) (start .pre .1 .1 .0 .1) (start .pre .1 .1 .1) m us z x (tree .result .end) (omega (arith, c .before .before .before .before .before .before .before .if2 .taken)) (tree .result .joins) (tree .ensures) (none .last .0) (none .ensures) (c .join-leaf2 .last .1 .1 .1 .1 .0) (c .join-leaf2 .ensures)
+
+tree-corners-returns-3 : (t : ℕ) → tree-corners-lts.Need-returns-3 (tree-claims t) (tree-corners-at t) tree-corners.Post
+tree-corners-returns-3 t c =
+    let ext = c .before .before .before .before .before .before .before in
+    let els = ext .before .before .before in
+    let start = els .before .before .before .before .before in
+    let a = start .args in
+    let m = some-rows t els in
+    let us = ext .extend .last .1 .0 in
+    let z = ext .extend .result in
+    let x = ext .extend .ensures in
+    let tree = c .before .before .before .before .before .plain-tree in
+    let none = c .before .write-none in
+    let some : 1 ≤ tree .result .end = omega (arith, c .before .before .before .if2 .taken) in
+    plain-through (a .shape .now) (a .labels .now) (a .depths .now) (a .names .now) (start .pre .1 .0 .0) (a .asked .now) (a .room .now) (a .log .now) (a .base) (a .q) (a .k) (a .first) (start .pre .1 .1 .0 .0) (start .pre .1 .0 .1) (start .pre .1 .0 .2) (start .pre .1 .1 .0 .1) (start .pre .1 .1 .1) m us z x (tree .result .end) some (tree .result .joins) (tree .ensures) (none .last .0) (none .ensures) (a .room .now)
+    (plain-still (a .shape .now) (a .labels .now) (a .depths .now) (a .names .now) (start .pre .1 .0 .0) (a .asked .now) (a .room .now) (a .log .now) (a .base) (a .q) (a .k) (a .first) (start .pre .1 .1 .0 .0) (start .pre .1 .0 .1) (start .pre .1 .0 .2) (start .pre .1 .1 .0 .1) (start .pre .1 .1 .1) m us z x (tree .result .end) some (tree .result .joins) (tree .ensures) (c .if3 .left))
 
 tree-corners-add-forest-corners : (t : ℕ) → tree-corners-lts.Need-add-forest-corners (tree-claims t) (tree-corners-at t) tree-corners.Post
 tree-corners-add-forest-corners t c =
-    let start = c .before .before .before .before .before .before .before .before .before .before .before .before .before .before in
+    let start = c .before .before .before .before .before .before .before .before .before .before .before .before .before .before .before in
     let a = start .args in
     omega (arith, level-room (a .shape .now) (a .labels .now) (a .depths .now) (a .names .now) (start .pre .1 .0 .0) (a .asked .now) (a .room .now) (a .base) (a .q) (a .first) (start .pre .1 .1 .0 .0) (start .pre .1 .0 .1))
 
@@ -305,7 +349,7 @@ tree-corners-add-forest-corners-2 t c = omega arith
 
 tree-corners-forest-corners-requires : (t : ℕ) → tree-corners-lts.Need-forest-corners-requires (tree-claims t) (tree-corners-at t) tree-corners.Post
 tree-corners-forest-corners-requires t c κs =
-    let ext = c .before .before .before .before .before .before in
+    let ext = c .before .before .before .before .before .before .before in
     let els = ext .before .before .before in
     let start = els .before .before .before .before .before in
     let a = start .args in
@@ -315,9 +359,9 @@ tree-corners-forest-corners-requires t c κs =
     let x = ext .extend .ensures in
     (omega (arith, start .pre .0), ((start .pre .1 .0 .0, omega (arith, more-rows (a .depths .now) (start .pre .1 .0 .0 .listing .outline) (a .first) (start .pre .1 .0 .1) m), sought-below (a .shape .now) (a .labels .now) (a .depths .now) (a .names .now) (start .pre .1 .0 .0) (a .asked .now) (a .room .now) (a .log .now) (a .base) (a .q) (a .k) (a .first) (start .pre .1 .1 .0 .0) (start .pre .1 .0 .1) (start .pre .1 .0 .2) (start .pre .1 .1 .0 .1) (start .pre .1 .1 .1) m us z x), (rw (add-one (a .first)) (begins-below (a .shape .now) (a .labels .now) (a .depths .now) (a .names .now) (start .pre .1 .0 .0) (a .asked .now) (a .room .now) (a .base) (a .q) (a .first) (start .pre .1 .1 .0 .0) (start .pre .1 .0 .1) (start .pre .1 .1 .1) m us z x), start .pre .1 .1 .0 .1)))
 
-tree-corners-returns-3 : (t : ℕ) → tree-corners-lts.Need-returns-3 (tree-claims t) (tree-corners-at t) tree-corners.Post
-tree-corners-returns-3 t c =
-    let ext = c .before .before .before .before .before .before .before .before in
+tree-corners-returns-4 : (t : ℕ) → tree-corners-lts.Need-returns-4 (tree-claims t) (tree-corners-at t) tree-corners.Post
+tree-corners-returns-4 t c =
+    let ext = c .before .before .before .before .before .before .before .before .before in
     let els = ext .before .before .before in
     let start = els .before .before .before .before .before in
     let a = start .args in
@@ -326,29 +370,29 @@ tree-corners-returns-3 t c =
     let z = ext .extend .result in
     let x = ext .extend .ensures in
     let call = c .before .forest-corners in
-    below-found (a .shape .now) (a .labels .now) (a .depths .now) (a .names .now) (start .pre .1 .0 .0) (a .asked .now) (a .room .now) (a .log .now) (a .base) (a .q) (a .k) (a .first) (start .pre .1 .1 .0 .0) (start .pre .1 .0 .1) (start .pre .1 .0 .2) (start .pre .1 .1 .0 .1) (start .pre .1 .1 .1) m us z x (call .result) (call .last .1 .1 .1 .1 .0) (call .last .1 .1 .1 .1 .1 .0) (call .last .1 .1 .1 .1 .1 .1 .0) (c .if3 .taken) (rw add-one at (call .ensures))
+    below-found (a .shape .now) (a .labels .now) (a .depths .now) (a .names .now) (start .pre .1 .0 .0) (a .asked .now) (a .room .now) (a .log .now) (a .base) (a .q) (a .k) (a .first) (start .pre .1 .1 .0 .0) (start .pre .1 .0 .1) (start .pre .1 .0 .2) (start .pre .1 .1 .0 .1) (start .pre .1 .1 .1) m us z x (call .result) (call .last .1 .1 .1 .1 .0) (call .last .1 .1 .1 .1 .1 .0) (call .last .1 .1 .1 .1 .1 .1 .0) (c .if4 .taken) (rw add-one at (call .ensures))
 
 tree-corners-mul-close-asked : (t : ℕ) → tree-corners-lts.Need-mul-close-asked (tree-claims t) (tree-corners-at t) tree-corners.Post
 tree-corners-mul-close-asked t c =
-    let start = c .before .before .before .before .before .before .before .before .before .before .before .before .before .before .before .before in
+    let start = c .before .before .before .before .before .before .before .before .before .before .before .before .before .before .before .before .before in
     let a = start .args in
     omega (arith, start .pre .1 .0 .0 .names)
 
 tree-corners-shared-slice-read-close-asked : (t : ℕ) → tree-corners-lts.Need-shared-slice-read-close-asked (tree-claims t) (tree-corners-at t) tree-corners.Post
 tree-corners-shared-slice-read-close-asked t c =
-    let start = c .before .before .before .before .before .before .before .before .before .before .before .before .before .before .before .before .before in
+    let start = c .before .before .before .before .before .before .before .before .before .before .before .before .before .before .before .before .before .before in
     let a = start .args in
     omega (arith, start .pre .1 .0 .0 .names)
 
 tree-corners-add-close-asked : (t : ℕ) → tree-corners-lts.Need-add-close-asked (tree-claims t) (tree-corners-at t) tree-corners.Post
 tree-corners-add-close-asked t c =
-    let start = c .before .before .before .before .before .before .before .before .before .before .before .before .before .before .before .before .before .before .before in
+    let start = c .before .before .before .before .before .before .before .before .before .before .before .before .before .before .before .before .before .before .before .before in
     let a = start .args in
     omega (arith, level-room (a .shape .now) (a .labels .now) (a .depths .now) (a .names .now) (start .pre .1 .0 .0) (a .asked .now) (a .room .now) (a .base) (a .q) (a .first) (start .pre .1 .1 .0 .0) (start .pre .1 .0 .1))
 
 tree-corners-close-asked-requires : (t : ℕ) → tree-corners-lts.Need-close-asked-requires (tree-claims t) (tree-corners-at t) tree-corners.Post
 tree-corners-close-asked-requires t c κs =
-    let ext = c .before .before .before .before .before .before .before .before .before .before .before in
+    let ext = c .before .before .before .before .before .before .before .before .before .before .before .before in
     let els = ext .before .before .before in
     let start = els .before .before .before .before .before in
     let a = start .args in
@@ -365,13 +409,13 @@ tree-corners-close-asked-requires t c κs =
 
 tree-corners-add-first-place : (t : ℕ) → tree-corners-lts.Need-add-first-place (tree-claims t) (tree-corners-at t) tree-corners.Post
 tree-corners-add-first-place t c =
-    let start = c .before .before .before .before .before .before .before .before .before .before .before .before .before .before .before .before .before .before .before .before .before .before in
+    let start = c .before .before .before .before .before .before .before .before .before .before .before .before .before .before .before .before .before .before .before .before .before .before .before in
     let a = start .args in
     omega (arith, level-room (a .shape .now) (a .labels .now) (a .depths .now) (a .names .now) (start .pre .1 .0 .0) (a .asked .now) (a .room .now) (a .base) (a .q) (a .first) (start .pre .1 .1 .0 .0) (start .pre .1 .0 .1))
 
 tree-corners-first-place-requires : (t : ℕ) → tree-corners-lts.Need-first-place-requires (tree-claims t) (tree-corners-at t) tree-corners.Post
 tree-corners-first-place-requires t c κs =
-    let ext = c .before .before .before .before .before .before .before .before .before .before .before .before .before .before in
+    let ext = c .before .before .before .before .before .before .before .before .before .before .before .before .before .before .before in
     let els = ext .before .before .before in
     let start = els .before .before .before .before .before in
     let a = start .args in
@@ -391,13 +435,13 @@ tree-corners-first-place-requires t c κs =
 
 tree-corners-cast-write-log : (t : ℕ) → tree-corners-lts.Need-cast-write-log (tree-claims t) (tree-corners-at t) tree-corners.Post
 tree-corners-cast-write-log t c =
-    let start = c .before .before .before .before .before .before .before .before .before .before .before .before .before .before .before .before .before .before .before .before .before .before .before .before in
+    let start = c .before .before .before .before .before .before .before .before .before .before .before .before .before .before .before .before .before .before .before .before .before .before .before .before .before in
     let a = start .args in
     omega (arith, place-most (c .before .first-place .ensures))
 
 tree-corners-write-log-requires-2 : (t : ℕ) → tree-corners-lts.Need-write-log-requires-2 (tree-claims t) (tree-corners-at t) tree-corners.Post
 tree-corners-write-log-requires-2 t c κs =
-    let ext = c .before .before .before .before .before .before .before .before .before .before .before .before .before .before .before .before in
+    let ext = c .before .before .before .before .before .before .before .before .before .before .before .before .before .before .before .before .before in
     let els = ext .before .before .before in
     let start = els .before .before .before .before .before in
     let a = start .args in
@@ -414,19 +458,19 @@ tree-corners-write-log-requires-2 t c κs =
 
 tree-corners-add-result : (t : ℕ) → tree-corners-lts.Need-add-result (tree-claims t) (tree-corners-at t) tree-corners.Post
 tree-corners-add-result t c =
-    let start = c .before .before .before .before .before .before .before .before .before .before .before .before .before .before .before .before .before .before .before .before .before .before .before .before .before .before in
+    let start = c .before .before .before .before .before .before .before .before .before .before .before .before .before .before .before .before .before .before .before .before .before .before .before .before .before .before .before in
     let a = start .args in
     omega (arith, start .pre .1 .0 .1, start .pre .1 .0 .0 .few)
 
 tree-corners-add-result-2 : (t : ℕ) → tree-corners-lts.Need-add-result-2 (tree-claims t) (tree-corners-at t) tree-corners.Post
 tree-corners-add-result-2 t c =
-    let start = c .before .before .before .before .before .before .before .before .before .before .before .before .before .before .before .before .before .before .before .before .before .before .before .before .before .before in
+    let start = c .before .before .before .before .before .before .before .before .before .before .before .before .before .before .before .before .before .before .before .before .before .before .before .before .before .before .before in
     let a = start .args in
     omega (arith, start .pre .1 .0 .1, start .pre .1 .0 .0 .few)
 
-tree-corners-returns-4 : (t : ℕ) → tree-corners-lts.Need-returns-4 (tree-claims t) (tree-corners-at t) tree-corners.Post
-tree-corners-returns-4 t c =
-    let ext = c .before .before .before .before .before .before .before .before .before .before .before .before .before .before .before .before .before .before in
+tree-corners-returns-5 : (t : ℕ) → tree-corners-lts.Need-returns-5 (tree-claims t) (tree-corners-at t) tree-corners.Post
+tree-corners-returns-5 t c =
+    let ext = c .before .before .before .before .before .before .before .before .before .before .before .before .before .before .before .before .before .before .before in
     let els = ext .before .before .before in
     let start = els .before .before .before .before .before in
     let a = start .args in
@@ -443,11 +487,11 @@ tree-corners-returns-4 t c =
     let w = c .before .before .before .before .before .before .close-asked .ensures in
     let place = c .before .before .before .first-place in
     let note = c .before .write-log2 in
-    tree-found (a .shape .now) (a .labels .now) (a .depths .now) (a .names .now) (start .pre .1 .0 .0) (a .asked .now) (a .room .now) (a .log .now) (a .base) (a .q) (a .k) (a .first) (start .pre .1 .1 .0 .0) (start .pre .1 .0 .1) (start .pre .1 .0 .2) (start .pre .1 .1 .0 .1) (start .pre .1 .1 .1) m us z x vs rs₁ ms₁ (p .1) rs₂ w (place .result) (place .ensures) (note .last .0) (note .ensures) (c .if4 .taken) _ (omega arith)
+    tree-found (a .shape .now) (a .labels .now) (a .depths .now) (a .names .now) (start .pre .1 .0 .0) (a .asked .now) (a .room .now) (a .log .now) (a .base) (a .q) (a .k) (a .first) (start .pre .1 .1 .0 .0) (start .pre .1 .0 .1) (start .pre .1 .0 .2) (start .pre .1 .1 .0 .1) (start .pre .1 .1 .1) m us z x vs rs₁ ms₁ (p .1) rs₂ w (place .result) (place .ensures) (note .last .0) (note .ensures) (c .if5 .taken) _ (omega arith)
 
 tree-corners-join-asked-requires : (t : ℕ) → tree-corners-lts.Need-join-asked-requires (tree-claims t) (tree-corners-at t) tree-corners.Post
 tree-corners-join-asked-requires t c κs =
-    let ext = c .before .before .before .before .before .before .before .before .before .before .before .before .before .before .before .before .before .before .before .before in
+    let ext = c .before .before .before .before .before .before .before .before .before .before .before .before .before .before .before .before .before .before .before .before .before in
     let els = ext .before .before .before in
     let start = els .before .before .before .before .before in
     let a = start .args in
@@ -464,9 +508,9 @@ tree-corners-join-asked-requires t c κs =
     let w = c .before .before .before .before .before .before .before .before .close-asked .ensures in
     (start .pre .1 .0 .0 .shape, ((x .least, z-room (a .shape .now) (a .labels .now) (a .depths .now) (a .names .now) (start .pre .1 .0 .0) (a .asked .now) (a .room .now) (a .base) (a .q) (a .first) (start .pre .1 .1 .0 .0) (start .pre .1 .0 .1) (start .pre .1 .1 .1) m us z x, w .size ∙ p .1 .ends .words), tree-joins (a .shape .now) (a .labels .now) (a .depths .now) (a .names .now) (start .pre .1 .0 .0) (a .asked .now) (a .room .now) (a .base) (a .q) (a .first) (start .pre .1 .1 .0 .0) (start .pre .1 .0 .1) (start .pre .1 .1 .1) m us z x vs rs₁ (p .1 .ends) rs₂ w))
 
-tree-corners-returns-5 : (t : ℕ) → tree-corners-lts.Need-returns-5 (tree-claims t) (tree-corners-at t) tree-corners.Post
-tree-corners-returns-5 t c =
-    let ext = c .before .before .before .before .before .before .before .before .before .before .before .before .before .before .before .before .before .before .before .before .before in
+tree-corners-returns-6 : (t : ℕ) → tree-corners-lts.Need-returns-6 (tree-claims t) (tree-corners-at t) tree-corners.Post
+tree-corners-returns-6 t c =
+    let ext = c .before .before .before .before .before .before .before .before .before .before .before .before .before .before .before .before .before .before .before .before .before .before in
     let els = ext .before .before .before in
     let start = els .before .before .before .before .before in
     let a = start .args in
@@ -483,7 +527,7 @@ tree-corners-returns-5 t c =
     let w = c .before .before .before .before .before .before .before .before .before .close-asked .ensures in
     let place = c .before .before .before .before .before .before .first-place in
     let note = c .before .before .before .before .write-log2 in
-    tree-through (a .shape .now) (a .labels .now) (a .depths .now) (a .names .now) (start .pre .1 .0 .0) (a .asked .now) (a .room .now) (a .log .now) (a .base) (a .q) (a .k) (a .first) (start .pre .1 .1 .0 .0) (start .pre .1 .0 .1) (start .pre .1 .0 .2) (start .pre .1 .1 .0 .1) (start .pre .1 .1 .1) m us z x vs rs₁ ms₁ (p .1) rs₂ w (place .result) (place .ensures) (note .last .0) (note .ensures) (c .before .before .before .if4 .left) (call .result) (p .0) (c .join-asked .last .1 .1 .1 .0) (c .join-asked .ensures)
+    tree-through (a .shape .now) (a .labels .now) (a .depths .now) (a .names .now) (start .pre .1 .0 .0) (a .asked .now) (a .room .now) (a .log .now) (a .base) (a .q) (a .k) (a .first) (start .pre .1 .1 .0 .0) (start .pre .1 .0 .1) (start .pre .1 .0 .2) (start .pre .1 .1 .0 .1) (start .pre .1 .1 .1) m us z x vs rs₁ ms₁ (p .1) rs₂ w (place .result) (place .ensures) (note .last .0) (note .ensures) (c .before .before .before .if5 .left) (call .result) (p .0) (c .join-asked .last .1 .1 .1 .0) (c .join-asked .ensures)
 
 pub +forest-corners+tree-corners-spec : {M : Type 1} → statement M
 +forest-corners+tree-corners-spec =
@@ -519,13 +563,17 @@ pub +forest-corners+tree-corners-spec : {M : Type 1} → statement M
     (tree-corners-join-leaf-requires t)
     (tree-corners-returns t)
     (tree-corners-extend-requires t)
-    (tree-corners-idle-end-requires t)
+    (tree-corners-plain-tree-requires t)
     (tree-corners-write-none-requires t)
+    (tree-corners-mul-join-leaf-2 t)
+    (tree-corners-shared-slice-read-join-leaf-2 t)
+    (tree-corners-join-leaf-requires-2 t)
     (tree-corners-returns-2 t)
+    (tree-corners-returns-3 t)
     (tree-corners-add-forest-corners t)
     (tree-corners-add-forest-corners-2 t)
     (tree-corners-forest-corners-requires t)
-    (tree-corners-returns-3 t)
+    (tree-corners-returns-4 t)
     (tree-corners-mul-close-asked t)
     (tree-corners-shared-slice-read-close-asked t)
     (tree-corners-add-close-asked t)
@@ -536,6 +584,6 @@ pub +forest-corners+tree-corners-spec : {M : Type 1} → statement M
     (tree-corners-write-log-requires-2 t)
     (tree-corners-add-result t)
     (tree-corners-add-result-2 t)
-    (tree-corners-returns-4 t)
-    (tree-corners-join-asked-requires t)
     (tree-corners-returns-5 t)
+    (tree-corners-join-asked-requires t)
+    (tree-corners-returns-6 t)

@@ -65,7 +65,7 @@ seek-label-requires c κs =
     let h = row-held (SameLabel (a .labels .now) (a .names .now)) (a .recipe .now) (a .depths .now) (rw e at (k .outline)) (k .listing .outline) (g .0) (a .v) (a .v - 1) (omega (arith, r .0)) r (a .map .now) (a .asked .now) (a .room .now) (a .log .now) (a .from) s (g .2) (g .1) in
     let leaf = sym (leaf-is (c .before)) ∙ c .if1 .taken in
     let f = leaf-held _ (a .recipe .now) (a .depths .now) (rw e at (k .outline)) (k .listing .outline) (a .v) r leaf (h .0) (omega (arith, h .1, h .2)) .0 (h .3) in
-    ((k .listing .outline, k .names), (h .0, h .1, h .2, sym (at-row (a .labels .now) (a .v) (r .0)) ∙ f))
+    ((k .listing, k .names), (h .0, h .1, h .2, sym (at-row (a .labels .now) (a .v) (r .0)) ∙ f))
 
 returns : tie.Need-returns
 returns c =
@@ -97,7 +97,7 @@ seek-logged-requires c κs =
     let i = c .before .before .image-of in
     let o : 1 ≤ at (a .map .now) (a .v) = omega (arith, i .ensures, c .before .if2 .taken) in
     let h = row-logged (SameLabel (a .labels .now) (a .names .now)) (a .recipe .now) (a .depths .now) (rw e at (k .outline)) (k .listing .outline) (g .0) (a .v) (a .v - 1) (omega (arith, r .0)) r (a .map .now) (a .asked .now) (a .room .now) (a .log .now) (a .from) s (g .2) (g .1) o in
-    ((k .listing .outline, k .few, k .names), (h .0, h .1, h .2, sym (at-row (a .labels .now) (a .v) (r .0)) ∙ h .3, omega (arith, h .4, i .ensures)))
+    ((k .listing, k .few, k .names), (h .0, h .1, h .2, sym (at-row (a .labels .now) (a .v) (r .0)) ∙ h .3, omega (arith, h .4, i .ensures)))
 
 same-length : tie.Need-same-length
 same-length c = search needs

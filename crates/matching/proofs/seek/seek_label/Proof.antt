@@ -1,69 +1,90 @@
 -- `matching::seek::seek_label` meets its contract: the row found is the first to close with the label. Assumes nothing.
-use mathlib.Core.Path.{_≡_, sym, _∙_}
-use mathlib.Core.Bool.{true≢false}
-use Prim.Native.Nat.{_-_, _≤_}
+use mathlib.Core.Path.{_≡_}
+use mathlib.Core.Logic.{⊎-elim}
+use Prim.Native.Nat.{suc, _-_, _≤_}
 use native.Mathlib.Omega.{arith}
 use native.Mathlib.Numerals.{add-one}
 use lib.ListN.{length}
-use borrow.Author.Tests.{eqb-true, eq-eqb}
-use Rattle.rows.specs.Rows.{at}
-use Rattle.matching.proofs.Scan.{Scanned, scanned-none, scanned-latest, scanned-fits, scanned-end}
+use borrow.Author.Needs.{needs}
+use Rattle.rows.specs.Rows.{at, depth}
+use Rattle.matching.proofs.Scan.{Scanned, scanned-none, scanned-hit, scanned-miss, scanned-end}
 use Rattle.matching.proofs.seek.seek_label.Statement.{statement}
 use Rattle.matching.proofs.seek.seek_label.Tie as tie
 
 abbrev Inv-loop : tie.InvT-loop
-Inv-loop depths names name from hit₀ at₀ hit passed = (from ≤ passed) × (passed ≤ length depths) × Scanned depths (λ t. name ≡ at names t) from passed hit
+Inv-loop depths names name from hit₀ stop₀ at₀ hit stop passed = (from ≤ passed) × (passed ≤ length depths) × Scanned depths (λ t. name ≡ at names t) from passed hit stop
 
 abbrev μ-loop : tie.MeasureT-loop
-μ-loop depths names name from hit₀ at₀ hit passed = length depths - passed
+μ-loop depths names name from hit₀ stop₀ at₀ hit stop passed = length depths - passed
 
 loop-holds : tie.Need-loop-holds Inv-loop μ-loop
 loop-holds c =
-    let start = c .before .before in
-    let a = start .args in
-    (omega arith, omega (arith, start .pre .1 .1, start .pre .1 .2), scanned-none (a .depths .now) (start .pre .0 .0) _ (a .from))
+    (omega arith, omega (arith, c .pre .1 .1, c .pre .1 .2), scanned-none _ (c .pre .0 .0 .outline) _ _)
 
-is-past-requires : tie.Need-is-past-requires Inv-loop μ-loop
-is-past-requires c κs =
-    let turn = c .before in
-    let start = turn .before .before .before in
-    let a = start .args in
-    (omega (arith, scanned-fits (a .depths .now) (start .pre .0 .0) _ (a .from) (turn .loop .at) (turn .loop .hit) (turn .loop .inv .2), turn .loop .inv .1), omega (arith, c .loop-test .taken))
+mul-if1 : tie.Need-mul-if1 Inv-loop μ-loop
+mul-if1 c = search needs
+
+shared-slice-read-if1 : tie.Need-shared-slice-read-if1 Inv-loop μ-loop
+shared-slice-read-if1 c = search needs
 
 returns : tie.Need-returns Inv-loop μ-loop
 returns c =
     let turn = c .before .before .before in
-    let start = turn .before .before .before in
-    let a = start .args in
+    let start = turn .before in
+    let o = turn .loop .inv in
     let h = start .pre .1 in
-    scanned-end (a .depths .now) (start .pre .0 .0) _ (a .from) (turn .loop .at) (turn .loop .hit) (turn .loop .inv .1) (λ l. c .before .is-past .ensures .0 (c .if1 .taken)) (turn .loop .inv .2) (h .0) (h .1) (h .2) (h .3)
+    scanned-end _ (start .pre .0 .0 .outline) _ _ _ _ _ (o .1) (λ l. c .if1 .taken) (o .2) (h .0) (h .1) (h .2) (h .3)
 
-latest-hit-requires : tie.Need-latest-hit-requires Inv-loop μ-loop
-latest-hit-requires c κs = omega (arith, c .before .before .loop-test .taken, c .before .before .before .before .before .before .pre .0 .1)
+mul-if2 : tie.Need-mul-if2 Inv-loop μ-loop
+mul-if2 c = search needs
+
+shared-slice-read-if2 : tie.Need-shared-slice-read-if2 Inv-loop μ-loop
+shared-slice-read-if2 c = search needs
+
+add-hit : tie.Need-add-hit Inv-loop μ-loop
+add-hit c = search needs
+
+mul-stop : tie.Need-mul-stop Inv-loop μ-loop
+mul-stop c = search needs
+
+shared-slice-read-stop : tie.Need-shared-slice-read-stop Inv-loop μ-loop
+shared-slice-read-stop c = search needs
+
+add-stop : tie.Need-add-stop Inv-loop μ-loop
+add-stop c =
+    let turn = c .before .before .before .before .before .before in
+    omega (arith, turn .before .pre .0 .0 .shallow (suc (turn .loop .at)) (omega arith))
 
 add-at : tie.Need-add-at Inv-loop μ-loop
-add-at c = omega arith
+add-at c = search needs
 
 loop-less : tie.Need-loop-less Inv-loop μ-loop
-loop-less c = omega (arith, c .before .before .before .loop-test .taken)
+loop-less c = search needs
 
 loop-again : tie.Need-loop-again Inv-loop μ-loop
 loop-again c =
-    let turn = c .before .before .before .before in
-    let start = turn .before .before .before in
-    let a = start .args in
-    let l = c .before .before .before .loop-test .taken in
-    let next = scanned-latest (a .depths .now) (start .pre .0 .0) _ (a .from) (turn .loop .at) (turn .loop .inv .0) l (turn .loop .hit)
-    (λ p. true≢false (sym (c .before .before .is-past .ensures .1 p) ∙ c .before .if1 .left)) _ (eqb-true _ _, eq-eqb _ _) (turn .loop .inv .2) in
-    (omega (arith, turn .loop .inv .0), omega arith, rw (add-one (turn .loop .at), c .latest-hit .ensures) next)
+    let turn = c .before .before .before .before .before in
+    let start = turn .before in
+    let o = turn .loop in
+    let k = start .pre .0 .0 .outline in
+    let l = c .before .before .before .before .loop-test .taken in
+    let d = c .before .before .if1 .left in
+    let n = add-one (o .at) in
+    let s = add-one (depth (start .args .depths .now) (suc (o .at))) in (
+      omega arith,
+      omega arith,
+      ⊎-elim
+          (λ w. rw (w .2, w .3, n, s) (scanned-hit _ k _ _ _ (o .inv .0) l _ _ d (o .inv .2) (w .0 .taken)))
+          (λ w. rw (w .1, w .2, n) (scanned-miss _ k _ _ _ (o .inv .0) l _ _ d (o .inv .2) (w .0 .left)))
+          (c .if2 .came),
+    )
 
 returns-2 : tie.Need-returns-2 Inv-loop μ-loop
 returns-2 c =
-    let turn = c .before in
-    let start = turn .before .before .before in
-    let a = start .args in
+    let start = c .before .before in
+    let o = c .before .loop .inv in
     let h = start .pre .1 in
-    scanned-end (a .depths .now) (start .pre .0 .0) _ (a .from) (turn .loop .at) (turn .loop .hit) (turn .loop .inv .1) (λ l. absurd (omega arith)) (turn .loop .inv .2) (h .0) (h .1) (h .2) (h .3)
+    scanned-end _ (start .pre .0 .0 .outline) _ _ _ _ _ (o .1) (λ l. absurd (omega arith)) (o .2) (h .0) (h .1) (h .2) (h .3)
 
 pub seek-label-spec : {M : Type 1} → statement M
 seek-label-spec =
@@ -72,9 +93,15 @@ seek-label-spec =
     Inv-loop
     μ-loop
     loop-holds
-    is-past-requires
+    mul-if1
+    shared-slice-read-if1
     returns
-    latest-hit-requires
+    mul-if2
+    shared-slice-read-if2
+    add-hit
+    mul-stop
+    shared-slice-read-stop
+    add-stop
     add-at
     loop-less
     loop-again
