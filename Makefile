@@ -12,7 +12,7 @@ test:
 	@bash .ci/run
 
 bench:
-	@sh tools/run-c.sh bench/inclusion.c inclusion_bench
+	@sh bench/inclusion.sh
 	@sh tools/run-c.sh bench/parcels.c parcel_bench
 	@sh bench/answer.sh
 

@@ -1,6 +1,7 @@
-/* Times the proved inclusion call beside two programs in C, in one run: the same algorithm, and the table of Kilpelainen and Mannila
-   (yes or no, and on a yes the map). The first judges the tables and clears its room as the proved call does, the second does neither. Each
-   turn times all three on a case, and the best turn of each counts. Prints microseconds and ratios. */
+/* Times the proved inclusion call beside three programs, in one run: the same algorithm in C, the table of Kilpelainen and Mannila in Rust, which
+   is the second program's answer, and that table alone in C. The first judges the tables and clears its room as the proved call does, the second
+   judges the tables and finds the corner too, the third does no more than yes or no, and on a yes the map. Each turn times them all on a case,
+   and the best turn of each counts. Prints microseconds and ratios. Built without Rust it leaves the second program out. */
 typedef unsigned short u16;
 typedef unsigned int u32;
 typedef unsigned long u64;
@@ -16,7 +17,7 @@ u64 inclusion_bench_include(const u16 *listing_depths, u64 a, const u32 *listing
 
 enum { LISTING = 4096, RECIPE = 256, DEEPEST = 63, TURNS = 150, ROOM = 14592 };
 
-static u16 td[LISTING], rd[RECIPE], map[RECIPE], map_c[RECIPE], map_t[RECIPE];
+static u16 td[LISTING], rd[RECIPE], map[RECIPE], map_c[RECIPE], map_s[RECIPE], map_t[RECIPE];
 static u32 tl[LISTING], rl[RECIPE];
 static int n, m; /* rows of the listing, rows of the recipe */
 static u32 seed;
@@ -86,16 +87,36 @@ static int bare_end(int first)
     return at;
 }
 
-/* behind the tree at this row where its rows, at most 16, all bear one label and no left-most leaf of the z chains asked has it, else 0 */
-static int idle_end(int z, int first)
+/* what rows of this label give the z chains asked: no left-most leaf (0), or such a leaf (1) and the row that it needs next too (2) */
+static int gain_of(int z, u32 name)
 {
-    if (tl[first] != tl[first + 1]) return 0;
-    for (int i = 0; i < z; i++)
-        if (rl[leaf[asked[i]] - 1] == tl[first]) return 0;
+    int gain = 0;
+    for (int i = 0; i < z; i++) {
+        u16 v = leaf[asked[i]], y = right[v] ? right[v] : parent[v];
+        if (rl[v - 1] != name) continue;
+        if (y && rl[y - 1] == name) return 2;
+        gain = 1;
+    }
+    return gain;
+}
+
+/* behind the tree at this row where its rows, at most 16, all bear one label, else 0 */
+static int plain_end(int first)
+{
     int at = first + 1;
     for (; at < n && td[at] > td[first]; at++)
         if (tl[at] != tl[first] || at > first + 15) return 0;
     return at;
+}
+
+/* joins a row of this label with nothing below it to the q corners from base on */
+static void join_leaf(int base, int q, u32 name)
+{
+    for (int i = 0; i < q; i++) {
+        u16 a = room[base + i], y = right[a];
+        if (!a) room[base + i] = close_row(name, asked[i], 0);
+        else if (y && leaf[y] == y && rl[y - 1] == name) room[base + i] = y;
+    }
 }
 
 /* how far below the path's first row a tree includes it, by its corners on the path's k chains; at most 15, which is no place */
@@ -121,11 +142,7 @@ static int tree_corners(int base, int q, int k, int first)
     int bare = bare_end(first);
     if (bare) {
         if (k) logged[first] = PATH;
-        for (int i = 0; i < q; i++) {
-            u16 a = room[base + i], y = right[a];
-            if (!a) room[base + i] = close_row(name, asked[i], 0);
-            else if (y && leaf[y] == y && rl[y - 1] == name) room[base + i] = y;
-        }
+        join_leaf(base, q, name);
         return bare;
     }
     int z = q;
@@ -133,11 +150,12 @@ static int tree_corners(int base, int q, int k, int first)
         u16 y = right[room[base + i]];
         if (y && !(place[y] < z && asked[place[y]] == y)) asked[z] = y, place[y] = (u16)z++;
     }
-    int idle = idle_end(z, first);
-    if (idle) {
-        for (int t = first; k && t < idle; t++)
+    int gain = name == tl[first + 1] ? gain_of(z, name) : 2, plain = gain < 2 ? plain_end(first) : 0;
+    if (plain) {
+        for (int t = first; k && t < plain; t++)
             logged[t] = PATH;
-        return idle;
+        if (gain) join_leaf(base, q, name);
+        return plain;
     }
     int end = forest_corners(base + q, z, k, first + 1);
     if (end < 0) return end;
@@ -155,7 +173,8 @@ static int tree_corners(int base, int q, int k, int first)
 
 static int forest_corners(int base, int q, int k, int first)
 {
-    for (int i = 0; i < q; i++)
+    room[base] = 0;
+    for (int i = 1; i < q; i++)
         room[base + i] = 0;
     int at = first;
     while (at >= 0 && at < n && td[at] >= td[first])
@@ -165,17 +184,17 @@ static int forest_corners(int base, int q, int k, int first)
 
 static u16 seek_label(u32 name, int at)
 {
-    int hit = 0;
-    for (; at < n && !(hit && td[at] <= td[hit - 1]); at++)
-        if (tl[at] == name) hit = at + 1;
+    int hit = 0, stop = 0;
+    for (; at < n && td[at] >= stop; at++)
+        if (tl[at] == name) hit = at + 1, stop = td[at] + 1;
     return (u16)hit;
 }
 
 static u16 seek_logged(u32 name, int most, int at)
 {
-    int hit = 0;
-    for (; at < n && !(hit && td[at] <= td[hit - 1]); at++)
-        if (tl[at] == name && logged[at] <= most) hit = at + 1;
+    int hit = 0, stop = 0;
+    for (; at < n && td[at] >= stop; at++)
+        if (tl[at] == name && logged[at] <= most) hit = at + 1, stop = td[at] + 1;
     return (u16)hit;
 }
 
@@ -216,6 +235,13 @@ static u16 seek(u16 v, int at)
     return mark[v] ? seek_logged(rl[v - 1], mark[v], at) : seek_path(v, at);
 }
 
+static int has_label(u32 name)
+{
+    for (int at = 0; at < n; at++)
+        if (tl[at] == name) return 1;
+    return 0;
+}
+
 static int last_row(int t)
 {
     int e = t;
@@ -242,7 +268,8 @@ __attribute__((noinline)) static u64 same(void)
     build();
     int pass = 0;
     room[0] = 0;
-    if (n) asked[0] = 1, place[1] = 0, pass = forest_corners(0, 1, !right[1] && leaf[1] != 1, 0);
+    if (m == 1) room[0] = has_label(rl[0]);
+    else if (n) asked[0] = 1, place[1] = 0, pass = forest_corners(0, 1, !right[1] && leaf[1] != 1, 0);
     u16 w = pass < 0 ? 1 : room[0];
     if (w == 0) return 2 * (u64)leaf[1];
     u64 width = 0;
@@ -403,12 +430,18 @@ static double now(void)
     return (double)t.seconds * 1e6 + (double)t.nanoseconds / 1e3;
 }
 
-static u64 answer, answer_c;
+static u64 answer, answer_c, answer_s;
 static int answer_t;
+
+/* the second program's answer, where it is linked */
+typedef u64 second_program(const u16 *listing_depths, const u32 *listing_labels, u64 listing, const u16 *recipe_depths, const u32 *recipe_labels,
+                           u64 recipe, u16 *map);
+static second_program *in_rust;
 
 static void proved(void) { answer = inclusion_bench_include(td, n, tl, n, rd, m, rl, m, map, m); }
 static void in_c(void) { answer_c = same(); }
 static void by_table(void) { answer_t = table(); }
+static void by_second(void) { answer_s = in_rust(td, tl, n, rd, rl, m, map_s); }
 
 static double timed(void (*call)(void), double best, int calls)
 {
@@ -419,42 +452,134 @@ static double timed(void (*call)(void), double best, int calls)
     return best < 0 || took < best ? took : best;
 }
 
-static int measure(const char *name)
+/* the best times of so many turns: of the call, of the same algorithm, of the second program and of the table alone */
+static struct times { double proved, same, second, table; } best;
+
+static int measure(int turns)
 {
-    double a = -1, b = -1, c = -1;
-    for (int turn = 0; turn < TURNS; turn++)
-        a = timed(proved, a, 4), b = timed(in_c, b, 4), c = timed(by_table, c, 1);
-    int same_maps = memcmp(map, map_c, 2u * m) == 0 && memcmp(map, map_t, 2u * m) == 0;
-    if (answer != answer_c || (int)(answer & 1) != answer_t || ((answer & 1) && !same_maps)) {
-        printf("%s: the answers differ: %lu %lu %d\n", name, answer, answer_c, answer_t);
-        return 1;
+    struct times t = {-1, -1, -1, -1};
+    for (int turn = 0; turn < turns; turn++) {
+        t.proved = timed(proved, t.proved, 4), t.same = timed(in_c, t.same, 4), t.table = timed(by_table, t.table, 1);
+        if (in_rust && turn % 8 == 0) t.second = timed(by_second, t.second, 1);
     }
-    printf("%-28s %4d x %4d  %-3s %9.1f us   same algorithm %5.2f   table %6.3f\n", name, m, n, answer & 1 ? "yes" : "no", a, a / b, a / c);
-    return 0;
+    best = t;
+    u64 maps = answer & 1 ? 2u * m : 0;
+    int differ = answer != answer_c || (int)(answer & 1) != answer_t || memcmp(map, map_c, maps) || memcmp(map, map_t, maps);
+    if (in_rust) differ |= answer != answer_s || memcmp(map, map_s, maps);
+    if (differ) printf("%d x %d: the answers differ: %lu %lu %lu %d\n", m, n, answer, answer_c, answer_s, answer_t);
+    return differ;
 }
 
-int main(void)
+static int measure_case(const char *name)
 {
-    int wrong = 0;
-    seed = 7;
-    printf("microseconds of the proved call, then its ratio to each peer\n");
-    run_folder(10, 20), wrong |= measure("run folder, whole");
-    run_folder(10, 20), tl[n - 19] = 5, wrong |= measure("run folder, one row lost");
-    run_folder(10, 20), m = 19, wrong |= measure("run folder, small recipe");
-    comb(26, 2), wrong |= measure("comb, h = 26, last row lost");
-    comb(63, 2), wrong |= measure("comb, h = 63, last row lost");
-    comb(26, 1), wrong |= measure("comb, h = 26");
-    comb(63, 1), wrong |= measure("comb, h = 63");
-    comb_among(63, 1, 62, 1, 2), wrong |= measure("comb among others, h = 63");
-    comb_among(63, 1, 31, 2, 2), wrong |= measure("comb among pairs, h = 63");
-    comb_among(63, 1, 31, 2, 3), wrong |= measure("comb among foreign pairs");
-    comb_among(63, 3, 60, 1, 2), wrong |= measure("large comb among others");
-    comb_among(5, 1, 100, 10, 2), wrong |= measure("small comb among chains");
-    chain_among(), wrong |= measure("chain among mixed chains");
-    one_row(14), wrong |= measure("one row among its kind");
-    all_asked(), wrong |= measure("all chains asked");
-    chance(1, 0, 0), wrong |= measure("one label, by chance");
-    chance(2, 0, 8), wrong |= measure("two labels, deep");
-    chance(1, 1, 8), wrong |= measure("star in a deep listing");
+    int wrong = measure(TURNS);
+    printf("%-28s %4d x %4d  %-3s %9.1f us   same algorithm %5.2f", name, m, n, answer & 1 ? "yes" : "no", best.proved, best.proved / best.same);
+    if (in_rust) printf("   table in Rust %6.3f", best.proved / best.second);
+    printf("   table alone in C %6.3f\n", best.proved / best.table);
     return wrong;
 }
+
+/* ---- questions by chance: a recipe, and a listing that has it, mostly, among trees of rows with its labels ---- */
+enum { QUESTIONS = 600, SMALL = 12, SHORT = 2 };
+
+static void recipe_by_chance(int rows, u32 labels)
+{
+    u32 shape = next(4);
+    for (m = 0; m < rows;) {
+        int most = m ? rd[m - 1] + 1 : 0, any = 1 + (int)next((u32)most + 1), down = shape == 0 || (shape == 2 && next(4));
+        if (most > 40) most = 40;
+        int depth = shape == 3 && next(8) == 0 ? 0 : down || any > most ? most : any;
+        m = grow(rd, rl, m, RECIPE, (u16)depth, 1 + next(labels));
+    }
+}
+
+/* a tree of so many rows: labels by chance, in turn, of the recipe, or of its last row alone */
+static void tree_by_chance(int depth, int rows, u32 labels, u32 kind)
+{
+    int at = depth;
+    for (int i = 0; i < rows; i++) {
+        u32 label = kind == 0 ? 1 + next(labels) : kind == 1 ? 1 + (u32)i % labels : rl[kind == 2 ? (int)next((u32)m) : m - 1];
+        n = grow(td, tl, n, LISTING, (u16)at, label);
+        at = kind == 1 || next(3) ? at + 1 : depth + (int)next((u32)(at - depth + 1));
+        if (at > DEEPEST) at = DEEPEST;
+    }
+}
+
+static void question_by_chance(int rows)
+{
+    u32 labels = 1 + next(5), kind = next(4), most = 1 + next(12), lost = next(4) == 0;
+    recipe_by_chance(1 + (int)next((u32)rows), labels);
+    int between = next(8) ? 3900 / m - 1 : 0;
+    if (between && next(4) == 0) between = (int)next((u32)between);
+    n = 0;
+    for (int v = 0; v < m && n < 4000; v++) {
+        if (!lost || v + 1 < m) n = grow(td, tl, n, LISTING, rd[v], rl[v]);
+        int below = v + 1 < m && rd[v + 1] > rd[v], end = n + between;
+        while (n && n < end && n < 4000)
+            tree_by_chance(rd[v] + below, 1 + (int)next(most), labels, kind);
+    }
+}
+
+/* the hardest questions so far for one table, by the ratio to it */
+struct hardest { double most; int rows, listing, over, over_short; };
+
+static void note(struct hardest *h, double ratio)
+{
+    h->over += ratio > 1.3, h->over_short += ratio > 1.3 && best.proved < SHORT;
+    if (best.proved >= SHORT && ratio > h->most) h->most = ratio, h->rows = m, h->listing = n;
+}
+
+static void print_hardest(const char *name, const struct hardest *h)
+{
+    printf("  %s: over 1.3 in %d, of them %d that take under %d us; of the others at most %.2f, %d x %d\n", name, h->over, h->over_short, SHORT, h->most,
+           h->rows, h->listing);
+}
+
+static int by_chance(void)
+{
+    struct hardest rust = {0, 0, 0, 0, 0}, alone = {0, 0, 0, 0, 0}, same_way = {0, 0, 0, 0, 0};
+    int wrong = 0;
+    for (int i = 0; i < QUESTIONS; i++) {
+        question_by_chance(i % 4 ? SMALL : RECIPE - 6);
+        wrong |= measure(9);
+        if (best.proved > 1.3 * best.table) wrong |= measure(40);
+        note(&same_way, best.proved / best.same), note(&alone, best.proved / best.table);
+        if (in_rust) note(&rust, best.proved / best.second);
+    }
+    printf("%d questions by chance\n", QUESTIONS);
+    print_hardest("same algorithm", &same_way);
+    if (in_rust) print_hardest("table in Rust", &rust);
+    print_hardest("table alone in C", &alone);
+    return wrong;
+}
+
+int inclusion_bench(second_program *second)
+{
+    int wrong = 0;
+    in_rust = second;
+    seed = 7;
+    printf("microseconds of the proved call, then its ratio to each peer\n");
+    run_folder(10, 20), wrong |= measure_case("run folder, whole");
+    run_folder(10, 20), tl[n - 19] = 5, wrong |= measure_case("run folder, one row lost");
+    run_folder(10, 20), m = 19, wrong |= measure_case("run folder, small recipe");
+    comb(26, 2), wrong |= measure_case("comb, h = 26, last row lost");
+    comb(63, 2), wrong |= measure_case("comb, h = 63, last row lost");
+    comb(26, 1), wrong |= measure_case("comb, h = 26");
+    comb(63, 1), wrong |= measure_case("comb, h = 63");
+    comb_among(63, 1, 62, 1, 2), wrong |= measure_case("comb among others, h = 63");
+    comb_among(63, 1, 31, 2, 2), wrong |= measure_case("comb among pairs, h = 63");
+    comb_among(63, 1, 31, 2, 3), wrong |= measure_case("comb among foreign pairs");
+    comb_among(63, 3, 60, 1, 2), wrong |= measure_case("large comb among others");
+    comb_among(5, 1, 100, 10, 2), wrong |= measure_case("small comb among chains");
+    chain_among(), wrong |= measure_case("chain among mixed chains");
+    one_row(14), wrong |= measure_case("one row among its kind");
+    all_asked(), wrong |= measure_case("all chains asked");
+    chance(1, 0, 0), wrong |= measure_case("one label, by chance");
+    chance(2, 0, 8), wrong |= measure_case("two labels, deep");
+    chance(1, 1, 8), wrong |= measure_case("star in a deep listing");
+    return wrong | by_chance();
+}
+
+#ifndef WITH_SECOND
+int main(void) { return inclusion_bench(0); }
+#endif
