@@ -67,7 +67,7 @@ fn only_row(names: &[u32], name: u32) -> Top
     }
 }
 
-// One pass over the listing, in which row 1 alone is asked. A recipe that is one tree, of more than one row, is found when its root is.
+// One pass over the listing, in which row 1 alone is asked; a recipe of one row needs none. One that is a larger tree is found when its root is.
 fn top_corner(
     depths: &[u16],
     names: &[u32],
