@@ -460,7 +460,7 @@ static int measure(int turns)
     struct times t = {-1, -1, -1, -1};
     for (int turn = 0; turn < turns; turn++) {
         t.proved = timed(proved, t.proved, 4), t.same = timed(in_c, t.same, 4), t.table = timed(by_table, t.table, 1);
-        if (in_rust && turn % 8 == 0) t.second = timed(by_second, t.second, 1);
+        if (in_rust) t.second = timed(by_second, t.second, 1);
     }
     best = t;
     u64 maps = answer & 1 ? 2u * m : 0;
