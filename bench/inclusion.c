@@ -31,7 +31,7 @@ static u32 next(u32 below)
 /* ---- the same algorithm: corners of the chains asked; then an image for each row, by its label, by the log of an earlier pass, or by a
    pass that stops at the image and logs for each row it closes which rows of a path it includes. Rows of a path that are first children
    stand on one chain ---- */
-enum { PATH = 15, PATH_RECIPE = 228, PATH_DEPTH = 4 };
+enum { PATH = 63, PATH_RECIPE = 228, PATH_DEPTH = 4, PATH_LARGE = 15 };
 static u16 parent[RECIPE + 1], right[RECIPE + 1], left[RECIPE + 1], leaf[RECIPE + 1], deep[RECIPE + 1];
 static u16 asked[RECIPE], place[RECIPE + 1], room[ROOM], mark[RECIPE + 1];
 static unsigned char logged[LISTING];
@@ -119,7 +119,7 @@ static void join_leaf(int base, int q, u32 name)
     }
 }
 
-/* how far below the path's first row a tree includes it, by its corners on the path's k chains; at most 15, which is no place */
+/* how far below the path's first row a tree includes it, by its corners on the path's k chains; at most 63, which is no place */
 static int first_place(int base, int k)
 {
     for (int i = 0; i < k; i++) {
@@ -214,7 +214,7 @@ static u16 widest_child(u16 u)
 
 static u16 seek_path(u16 v, int at)
 {
-    int k = 1, most = m <= PATH_RECIPE || deep[v] >= PATH_DEPTH ? PATH : 1;
+    int k = 1, most = m <= PATH_RECIPE ? PATH : deep[v] >= PATH_DEPTH ? PATH_LARGE : 1;
     asked[0] = v, place[v] = 0;
     u16 u = widest_child(v);
     for (u16 i = 1; i < PATH && leaf[u] != u; i++) {

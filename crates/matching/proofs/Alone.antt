@@ -8,7 +8,7 @@ use lib.Seq.{getD-set-same, getD-set-other}
 use Rattle.rows.specs.Rows.{Row, depth, Outline}
 use Rattle.rows.specs.Forest.{nil, forestAt, forest}
 use Rattle.rows.proofs.Windows.{at-end}
-use Rattle.matching.specs.Asked.{chain, Asked}
+use Rattle.matching.specs.Asked.{chain, pathChains, Asked}
 use Rattle.matching.specs.Room.{roomWords, recipeOf}
 use Rattle.matching.specs.Engine.{Begins}
 use Rattle.matching.proofs.Written.{room-one, room-below}
@@ -19,6 +19,9 @@ module _ (ws : List ℕ) (v : ℕ) (size : length ws ≡ 513) (high : v ≤ 256)
 
   pub alone-chain : chain askAlone 0 ≡ v
   alone-chain = getD-set-other (set ws 0 v) (256 + v) 0 0 0 (λ e. omega arith) ∙ getD-set-same ws 0 v 0 (omega arith)
+
+  pub alone-path : 1 ≤ v → pathChains askAlone ≡ pathChains ws
+  alone-path a = getD-set-other (set ws 0 v) (256 + v) 256 0 0 (λ e. omega arith) ∙ getD-set-other ws 0 256 v 0 (λ e. omega arith)
 
   pub alone-asked : (m : ℕ) → 1 ≤ v → v ≤ m → Asked m askAlone 1
   alone-asked m a b =

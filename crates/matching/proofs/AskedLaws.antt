@@ -11,7 +11,7 @@ use lib.Seq.{getD-set-same, getD-set-other}
 use borrow.Author.Tests.{lt-ltb, ltb-true, eq-eqb, eqb-true}
 use Rattle.rows.specs.Rows.{tally, counted}
 use Rattle.rows.proofs.Tests.{both-true, same-test, tally-true, tally-false, tally-same}
-use Rattle.matching.specs.Asked.{chain, noted, Asked, Member, Keep, Asks, after, Extends}
+use Rattle.matching.specs.Asked.{chain, noted, pathChains, Asked, Member, Keep, Asks, after, Extends}
 
 -- whether row y is among the first z
 abbrev isMember : List ℕ → ℕ → ℕ → Bool
@@ -113,7 +113,7 @@ asked-more m n ws z h k = record { size = k .size; rows = λ i l. omega (arith, 
 
 -- nothing is asked: row 0, or a row that is asked already
 pub asks-none : (ws : List ℕ) (z y : ℕ) → (1 ≤ y → Member ws z y) → Asks ws z y ws z
-asks-none ws z y h = record { least = omega arith; most = omega arith; keep = λ i o. refl; asked = λ m a b k. k; member = h }
+asks-none ws z y h = record { least = omega arith; most = omega arith; keep = λ i o. refl; asked = λ m a b k. k; member = h; path = refl }
 
 -- a new row y is asked at place z
 module _ (ws : List ℕ) (z y : ℕ) (size : length ws ≡ 513) (low : z < 256) (one : 1 ≤ y) (high : y ≤ 256) where
@@ -140,6 +140,7 @@ module _ (ws : List ℕ) (z y : ℕ) (size : length ws ≡ 513) (low : z < 256) 
         keep = λ i h. more-chain i (omega arith) (λ e. omega arith);
         asked = λ m a b k. record { size = length-set (set ws z y) (256 + y) z ∙ length-set ws z y ∙ size; rows = λ i h. rows m b k i h (decLt i z); places = λ i h. places m k i h (decLt i z) };
         member = λ o. (omega (arith, more-noted), ap (chain more) more-noted ∙ more-new);
+        path = more-other 0 (λ e. omega arith);
       }
     where
       rows : (m : ℕ) → y ≤ m → Asked m ws z → (i : ℕ) → i < suc z → Dec (i < z) → (1 ≤ chain more i) × (chain more i ≤ m)
@@ -153,6 +154,22 @@ module _ (ws : List ℕ) (z y : ℕ) (size : length ws ≡ 513) (low : z < 256) 
           rw (more-chain i (omega arith) (λ e. omega arith), more-other (chain ws i) (λ e. new (rw e at old))) p
       places m k i h (no l) = let e : i ≡ z = omega arith in rw (e, more-new) more-noted
 
+-- how many chains the path has is noted: what was asked stays
+module _ (m : ℕ) (few : m ≤ 256) (ws : List ℕ) (z k : ℕ) (a : Asked m ws z) where
+  pub path-keep : Keep ws (set ws 256 k) z
+  path-keep i h = getD-set-other ws 256 i k 0 (λ e. omega (arith, asked-few m ws z a))
+
+  pub path-asked : Asked m (set ws 256 k) z
+  path-asked =
+      record {
+        size = length-set ws 256 k ∙ a .size;
+        rows = λ i h. rw (path-keep i h) (a .rows i h);
+        places = λ i h. rw (path-keep i h) (getD-set-other ws 256 (256 + chain ws i) k 0 (λ e. omega (arith, a .rows i h)) ∙ a .places i h);
+      }
+
+  pub path-noted : pathChains (set ws 256 k) ≡ k
+  path-noted = getD-set-same ws 256 k 0 (omega (arith, a .size))
+
 -- who was asked stays asked
 pub member-kept : (m : ℕ) (ws us : List ℕ) (z n y : ℕ) → z ≤ n → Keep ws us z → Asked m us n → Member ws z y → Member us n y
 member-kept m ws us z n y l k a h =
@@ -163,7 +180,7 @@ member-kept m ws us z n y l k a h =
 -- corner by corner
 module _ (shape ws room : List ℕ) (base q : ℕ) where
   pub extends-none : Extends shape ws room base q 0 ws q
-  extends-none = record { least = omega arith; most = omega arith; keep = λ i h. refl; asked = λ m a b k. k; member = λ i h. absurd (omega arith) }
+  extends-none = record { least = omega arith; most = omega arith; keep = λ i h. refl; asked = λ m a b k. k; member = λ i h. absurd (omega arith); path = refl }
 
   pub extends-one : (k : ℕ) (us vs : List ℕ) (n p : ℕ) → Extends shape ws room base q k us n → Asks us n (after shape room (base + k)) vs p → Asked 256 vs p
       → Extends shape ws room base q (suc k) vs p
@@ -174,6 +191,7 @@ module _ (shape ws room : List ℕ) (base q : ℕ) where
         keep = λ i h. a .keep i (omega (arith, x .least)) ∙ x .keep i h;
         asked = λ m b f s. a .asked m b (f k (omega arith)) (x .asked m b (λ i h. f i (omega arith)) s);
         member = λ i h o. member i h o (decLt i k);
+        path = a .path ∙ x .path;
       }
     where
       member : (i : ℕ) → i < suc k → 1 ≤ after shape room (base + i) → Dec (i < k) → Member vs p (after shape room (base + i))

@@ -107,6 +107,7 @@ module _ (ws rl td tl : List ℕ) (k : Ready ws rl td tl) (asked rs₀ ls : List
             words = w .size ∙ b .words;
             before = λ j n. refl;
             corners = λ i n. w .new i n ∙ sym (corner-nothing (sameLabel rl tl) (recipeOf ws rl) (chain asked i));
+            path = refl;
           };
           told = λ y a c. absurd (omega arith);
           kept = kept-none ls (suc first) first size-log;
@@ -139,6 +140,7 @@ module _ (ws rl td tl : List ℕ) (k : Ready ws rl td tl) (asked rs₀ ls : List
                   before = λ j n. s .ends .before j n ∙ w .before j n;
                   corners = λ i n.
                       s .ends .corners i n ∙ ap (λ (g : Forest ℕ). cornerOf ws rl tl g (chain asked i)) f ∙ s .whole (chain asked i) (b .chains .rows i n);
+                  path = s .ends .path;
                 };
                 none = λ o i. s .none o (rw z i);
                 told = λ y a c. s .told y a (omega arith);
@@ -269,6 +271,7 @@ module _ (ws rl td tl : List ℕ) (k : Ready ws rl td tl) (asked rs₀ ls : List
                       c .corners i n
                       ∙ ap₂ (λ (x a : ℕ). withTree ws rl td tl r x a) (s .ends .keep i n) (s .ends .corners i n)
                       ∙ sym (corner-join (sameLabel rl tl) (recipeOf ws rl) (k .outline) (chain asked i) (s .done) (treeAt td r) (b .chains .rows i n));
+                  path = c .path ∙ s .ends .path;
                 };
                 told = λ y a c. told-next v y a c (decLe y r);
                 kept = kept-both ls (suc first) last ms os (kept-wide ls (suc first) r (suc first) last ms (omega arith) (omega arith) (s .kept))

@@ -88,14 +88,14 @@ module _ (Fit : ℕ → ℕ → Type 0) (rd td : List ℕ) (kr : Outline rd) (kt
 
   -- the rows of a path behind its first are below it, so their marks disturb no image
   module _ (asked : List ℕ) (n k : ℕ) (p : Path rd asked k) (top : chain asked 0 ≡ suc n) where
-    pub marks-images : (m m′ : List ℕ) → Marks rd asked k 15 m m′ → (u : ℕ) → u ≤ suc n → at m′ u ≡ at m u
+    pub marks-images : (m m′ : List ℕ) → Marks rd asked k 63 m m′ → (u : ℕ) → u ≤ suc n → at m′ u ≡ at m u
     marks-images m m′ h u o = go (h .slots u)
       where
-        go : Slot rd asked k 15 m m′ u → at m′ u ≡ at m u
+        go : Slot rd asked k 63 m m′ u → at m′ u ≡ at m u
         go (stays e) = e
         go (marked i a b s e r) = absurd (omega (arith, on-below rd kr asked k p i u a s .1))
 
-    pub marks-placed : (m m′ : List ℕ) → Marks rd asked k 15 m m′ → Placed Fit rd td m n → Placed Fit rd td m′ n
+    pub marks-placed : (m m′ : List ℕ) → Marks rd asked k 63 m m′ → Placed Fit rd td m n → Placed Fit rd td m′ n
     marks-placed m m′ h done u r o = earliest-same Fit rd td m m′ u (r .0) (λ w b. sym (marks-images m m′ h w (omega arith))) (done u r o)
 
   -- above a marked row the first row without an image has a mark too
@@ -117,7 +117,7 @@ module _ (Fit : ℕ → ℕ → Type 0) (rd td : List ℕ) (kr : Outline rd) (kt
   -- a row without a mark gets its image, and rows of a path below it get marks: ms tells of the path in the tree at the image, and behind
   -- that tree tells what ls told
   module _ (ls ms m m′ asked : List ℕ) (n k t : ℕ) (old : Marked Fit rd td ls m n) (blank : at m (suc n) ≡ 0) (some : 1 ≤ k) (p : Path rd asked k)
-      (top : chain asked 0 ≡ suc n) (room : length rd ≤ length m) (marks : Marks rd asked k 15 m m′)
+      (top : chain asked 0 ≡ suc n) (room : length rd ≤ length m) (marks : Marks rd asked k 63 m m′)
       (tells : (y : ℕ) → t ≤ y → y ≤ lastRow td t → Told Fit rd td asked k ms y) (stay : (y : ℕ) → lastRow td t < y → logged ms y ≡ logged ls y) where
     fits : suc n ≤ length rd
     fits = omega (arith, p .rows 0 some)
@@ -132,7 +132,7 @@ module _ (Fit : ℕ → ℕ → Type 0) (rd td : List ℕ) (kr : Outline rd) (kt
     before u o = other u (λ e. omega arith) ∙ marks-images asked n k p top m m′ marks u (omega arith)
 
     abbrev Spot : ℕ → Type 0
-    Spot c = Slot rd asked k 15 m m′ c
+    Spot c = Slot rd asked k 63 m m′ c
 
     up : (c : ℕ) → suc n < c → c ≤ length rd → 1 ≤ at m′ c → suc n < parent rd c → Spot c → Spot (parent rd c) → 1 ≤ at m′ (parent rd c)
     up c o h a b (marked i x y z e r) s = r (omega arith)
@@ -175,7 +175,7 @@ module _ (Fit : ℕ → ℕ → Type 0) (rd td : List ℕ) (kr : Outline rd) (kt
 
   -- so it is where a search for the path came upon the image of its first row
   pub marked-pass : (ls ls′ m m′ asked us : List ℕ) (n k from t : ℕ) → Marked Fit rd td ls m n → at m (suc n) ≡ 0 → PathAsked rd asked k
-      → chain asked 0 ≡ suc n → length rd ≤ length m → Marks rd asked k 15 m m′ → Logged Fit rd td asked k ls from t us ls′
+      → chain asked 0 ≡ suc n → length rd ≤ length m → Marks rd asked k 63 m m′ → Logged Fit rd td asked k ls from t us ls′
       → Marked Fit rd td ls′ (set m′ n t) (suc n)
   marked-pass ls ls′ m m′ asked us n k from t old blank p top room marks l =
       marked-path ls ls′ m m′ asked n k t old blank (p .some) (p .path) top room marks (l .told) (λ y h. l .kept .stays y (λ a b. omega arith))

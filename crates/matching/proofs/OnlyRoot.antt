@@ -13,14 +13,14 @@ use Rattle.rows.specs.Embedding.{SameLabel}
 use Rattle.rows.proofs.Depths.{inside-deeper}
 use Rattle.rows.proofs.Windows.{stands-forest, size-forest}
 use Rattle.matching.specs.Family.{rightSibling, leftLeaf}
-use Rattle.matching.specs.Asked.{chain}
+use Rattle.matching.specs.Asked.{chain, pathChains}
 use Rattle.matching.specs.EarliestClose.{Holds}
 use Rattle.matching.specs.Placing.{FirstIn}
 use Rattle.matching.specs.Shape.{word}
 use Rattle.matching.specs.Path.{logBytes, Path}
 use Rattle.matching.specs.Room.{recipeOf, roomWords}
 use Rattle.matching.specs.Engine.{Ready, Begins, Sought, Passed, Known, cornerOf}
-use Rattle.matching.proofs.Alone.{askAlone, alone-chain, begins-alone, forest-top}
+use Rattle.matching.proofs.Alone.{askAlone, alone-chain, alone-path, begins-alone, forest-top}
 use Rattle.matching.proofs.Asking.{inner-row}
 use Rattle.matching.proofs.Foreign.{leafless}
 use Rattle.matching.proofs.Held.{held-iff}
@@ -93,7 +93,7 @@ pub known-none : {ws rl td tl ls : List ℕ} → Known ws rl td tl ls 0
 known-none = record { first = λ o. absurd (omega arith); path = λ o. absurd (omega arith); told = λ o. absurd (omega arith) }
 
 -- row 1 alone is asked, and l rows are sought: that row, where it is the only root and has rows below it, or none
-module _ {ws rl td tl : List ℕ} (k : Ready ws rl td tl) (one : 1 ≤ length (recipeOf ws rl)) (xs : List ℕ) (size-asked : length xs ≡ 513) {l : ℕ}
+module _ {ws rl td tl : List ℕ} (k : Ready ws rl td tl) (one : 1 ≤ length (recipeOf ws rl)) (xs : List ℕ) (size-asked : length xs ≡ 513) {l : ℕ} (noted : pathChains xs ≡ l)
     (rows : (l ≤ 1) × ((1 ≤ l) ↔ ((word 1 ws 1 ≡ 0) × (word 2 ws 1 ≡ 1 → ⊥)))) where
   abbrev rd : List ℕ
   rd = recipeOf ws rl
@@ -103,6 +103,9 @@ module _ {ws rl td tl : List ℕ} (k : Ready ws rl td tl) (one : 1 ≤ length (r
 
   first : chain asked 0 ≡ 1
   first = alone-chain xs 1 size-asked (omega arith)
+
+  path : pathChains asked ≡ l
+  path = alone-path xs 1 size-asked (omega arith) (omega arith) ∙ noted
 
   row : Row rd 1
   row = (omega arith, one)
@@ -121,15 +124,15 @@ module _ {ws rl td tl : List ℕ} (k : Ready ws rl td tl) (one : 1 ≤ length (r
         down = λ i h. absurd (omega (arith, rows .0));
       }
 
-  pub first-sought : Sought ws rl asked 1 l
-  first-sought = record { some = omega arith; few = rows .0; path = first-path asked first }
+  pub first-sought : Sought ws rl asked 1 (pathChains asked)
+  first-sought = rw path record { some = omega arith; few = rows .0; path = first-path asked first }
 
   pub first-begins : {rs : List ℕ} → length rs ≡ roomWords → (d : ℕ) → Begins ws rl asked rs 0 1 d
   first-begins n d = begins-alone xs 1 size-asked (omega arith) ws rl _ d (k .shape .few) row n
 
   -- what the pass says of the whole listing
   module _ (n : 0 < length td) {rs ls us ss ms : List ℕ} {r : ℕ}
-      (p : Passed ws rl td tl asked rs ls 0 1 (λ i. cornerOf ws rl tl (forestAt td 0 (depth td 1)) (chain asked i)) l 0 (0 + size (forestAt td 0 (depth td 1))) r us ss ms) where
+      (p : Passed ws rl td tl asked rs ls 0 1 (λ i. cornerOf ws rl tl (forestAt td 0 (depth td 1)) (chain asked i)) (pathChains asked) 0 (0 + size (forestAt td 0 (depth td 1))) r us ss ms) where
     abbrev Sizes : Type 0
     Sizes = (length us ≡ 513) × (length ss ≡ roomWords) × (length ms ≡ logBytes)
 
@@ -147,7 +150,7 @@ module _ {ws rl td tl : List ℕ} (k : Ready ws rl td tl) (one : 1 ≤ length (r
 
     pub first-found : listingRows < r → (1 ≡ cornerOf ws rl tl (forest td) 1) × Known ws rl td tl ms (r - listingRows) × Sizes
     first-found o =
-        let g = p .found o in
+        let g = (rw path at p) .found o in
         let last : 0 + size (forestAt td 0 (depth td 1)) ≡ length td = omega (arith, ap size all, size-forest td (k .listing .outline)) in
         let h = rw (first, last) at (g .found) in
         let e : l ≡ 1 = omega (arith, g .some, rows .0) in (

@@ -43,8 +43,8 @@ on-same rd asked us l i v e o =
 pub told-same : (Fit : ℕ → ℕ → Type 0) (rd td asked us : List ℕ) (l : ℕ) (ls : List ℕ) (t : ℕ) → Keep asked us l → Told Fit rd td us l ls t → Told Fit rd td asked l ls t
 told-same Fit rd td asked us l ls t e k i v a b o = k i v a b (on-same rd asked us l i v e o)
 
--- a place fits half a byte
-pub place-most : {ws asked rs : List ℕ} {base k r : ℕ} → FirstPlace ws asked rs base k r → r ≤ 15
+-- a place fits six bits
+pub place-most : {ws asked rs : List ℕ} {base k r : ℕ} → FirstPlace ws asked rs base k r → r ≤ 63
 place-most (met i l n h e) = omega arith
 place-most (none n e) = omega arith
 

@@ -138,7 +138,7 @@ module _ (Fit : ℕ → ℕ → Type 0) (rd td : List ℕ) (kr : Outline rd) (kt
 
     -- .. or by one, which has left a log and marks
     pub stage-pass : at m (suc n) ≡ 0 → (asked : List ℕ) (k : ℕ) → PathAsked rd asked k → chain asked 0 ≡ suc n → (us ss os m′ : List ℕ) → length us ≡ 513 → length ss ≡ roomWords
-        → Logged Fit rd td asked k ls from t us os → Marks rd asked k 15 m m′ → Stage Fit rd td m us ss os (set m′ n t) (suc n)
+        → Logged Fit rd td asked k ls from t us os → Marks rd asked k 63 m m′ → Stage Fit rd td m us ss os (set m′ n t) (suc n)
     stage-pass none asked k p top us ss os m′ lu ls′ g w =
         let same = marks-images Fit rd td kr kt asked n k (p .path) top m m′ w in
         record {
@@ -167,7 +167,7 @@ module _ (Fit : ℕ → ℕ → Type 0) (rd td : List ℕ) (kr : Outline rd) (kt
 
     -- the log tells of the tree at row 1's image and of row 1's chain, and that chain has its marks
     module _ (t : ℕ) (f : FirstIn td (Holds Fit rd td 1) 1 (length td) t) (p : Path rd (1 ∷ []) 1)
-        (told : (y : ℕ) → t ≤ y → y ≤ lastRow td t → Told Fit rd td (1 ∷ []) 1 ls y) (m₂ : List ℕ) (marks : Marks rd (1 ∷ []) 1 15 m₁ m₂) where
+        (told : (y : ℕ) → t ≤ y → y ≤ lastRow td t → Told Fit rd td (1 ∷ []) 1 ls y) (m₂ : List ℕ) (marks : Marks rd (1 ∷ []) 1 63 m₁ m₂) where
       stage-known : Stage Fit rd td m₀ xs rs ls (set m₂ 0 t) 1
       stage-known =
           record {
@@ -211,7 +211,7 @@ module _ (Fit : ℕ → ℕ → Type 0) (rd td : List ℕ) (kr : Outline rd) (kt
     row-one = rw next (λ t f. (f .high, stage-one m xs rs ls n from s room more begins t f))
 
     pub row-pass : at m v ≡ 0 → (asked : List ℕ) (k : ℕ) → PathAsked rd asked k → chain asked 0 ≡ v → (t : ℕ) → FirstIn td (Holds Fit rd td (chain asked 0)) (suc from) (length td) t
-        → (us ss os m′ : List ℕ) → (length us ≡ 513) × (length ss ≡ roomWords) → Logged Fit rd td asked k ls from t us os → Marks rd asked k 15 m m′
+        → (us ss os m′ : List ℕ) → (length us ≡ 513) × (length ss ≡ roomWords) → Logged Fit rd td asked k ls from t us os → Marks rd asked k 63 m m′
         → (t ≤ length td) × Stage Fit rd td m us ss os (set m′ n t) v
     row-pass =
         rw next

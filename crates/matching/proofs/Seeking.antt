@@ -31,7 +31,7 @@ abbrev pub rest-types : Lfts 7 → List RattleType
 rest-types κs =
     ShrSlice (named 1) (κs .1 .0) u32 ∷ ShrRef (named 2) (κs .1 .1 .0) (Array u16 1156) ∷ ShrSlice (named 3) (κs .1 .1 .1 .0) u32
     ∷ MutRef (named 4) (κs .1 .1 .1 .1 .0) (Array u16 513) ∷ MutRef (named 5) (κs .1 .1 .1 .1 .1 .0) (Array u16 14592)
-    ∷ MutRef (named 6) (κs .1 .1 .1 .1 .1 .1 .0) (Array u8 2048) ∷ usize ∷ []
+    ∷ MutRef (named 6) (κs .1 .1 .1 .1 .1 .1 .0) (Array u8 3072) ∷ usize ∷ []
 
 abbrev pub rest-spells : (κs : Lfts 7) → Spells (rest-types κs)
 rest-spells κs = (slice-vals, (ptr-vals, (slice-vals, (ptr-vals, (ptr-vals, (ptr-vals, (uint-vals w64, tt)))))))
@@ -47,7 +47,7 @@ rest-tells κs = (
         mut-tells (named 4) (κs .1 .1 .1 .1 .0) (Array u16 513),
         (
           mut-tells (named 5) (κs .1 .1 .1 .1 .1 .0) (Array u16 14592),
-          (mut-tells (named 6) (κs .1 .1 .1 .1 .1 .1 .0) (Array u8 2048), (uint-tells w64, tt)),
+          (mut-tells (named 6) (κs .1 .1 .1 .1 .1 .1 .0) (Array u8 3072), (uint-tells w64, tt)),
         ),
       ),
     ),

@@ -13,7 +13,7 @@ use Rattle.rows.proofs.Windows.{size-below}
 use Rattle.matching.specs.Family.{rightSibling}
 use Rattle.matching.specs.CornerRow.{closeRow, joinRow, OnChain}
 use Rattle.matching.specs.Shape.{word}
-use Rattle.matching.specs.Asked.{chain, noted, Asked, Keep, Member, after, Extends}
+use Rattle.matching.specs.Asked.{chain, noted, pathChains, Asked, Keep, Member, after, Extends}
 use Rattle.matching.specs.Room.{roomWords, roomFor, Written, named, sameLabel, recipeOf, closed, following, joined, alone, joinedAlone, Joins}
 use Rattle.matching.specs.Engine.{Ready, Begins, Ends, treeAt, cornerOf, withTree}
 use Rattle.matching.proofs.AskedLaws.{asked-few, member-kept}
@@ -93,7 +93,7 @@ module _ (ws rl td tl : List ℕ) (k : Ready ws rl td tl) where
         omega (arith, fits i l .row, k .shape .few, right-word (getD rs (base + i) 0) (fits i l .row), right-fits rd (getD rs (base + i) 0))
 
     -- a tree that gives the chains asked, and those after their corners, what its first row alone would
-    module _ (us : List ℕ) (chains : Asked (length rd) us q) (keep : Keep asked us q)
+    module _ (us : List ℕ) (chains : Asked (length rd) us q) (keep : Keep asked us q) (path : pathChains us ≡ pathChains asked)
         (here : (i : ℕ) → i < q → alone ws rl name (chain asked i) ≡ cornerOf ws rl tl (treeAt td first) (chain asked i))
         (beside : (i : ℕ) → i < q → alone ws rl name (after ws rs (base + i)) ≡ cornerOf ws rl tl (treeAt td first) (after ws rs (base + i))) where
       pub alone-ends : (ss : List ℕ) → Written rs base q (joinedAlone ws rl name us rs base) ss
@@ -108,13 +108,14 @@ module _ (ws rl td tl : List ℕ) (k : Ready ws rl td tl) where
                 w .new i l
                 ∙ ap₂ (joinRow rd (getD rs (base + i) 0)) (ap (alone ws rl name) (keep i l) ∙ here i l)
                 (beside i l ∙ ap (cornerOf ws rl tl (treeAt td first)) (right-word (getD rs (base + i) 0) (fits i l .row)));
+            path = path;
           }
 
     -- such is a row with nothing below it that has a corner
     pub leaf-ends : ((x : ℕ) → x ≤ length rd → cornerOf ws rl tl (below td (suc first)) x ≡ 0) → (ss : List ℕ) → Written rs base q (joinedAlone ws rl name asked rs base) ss
         → Ends ws rl asked rs base q (λ i. withTree ws rl td tl first (chain asked i) (getD rs (base + i) 0)) asked ss
     leaf-ends empty =
-        alone-ends asked (b .chains) (λ i l. refl) (λ i l. alone-tree (chain asked i) (b .chains .rows i l .1))
+        alone-ends asked (b .chains) (λ i l. refl) refl (λ i l. alone-tree (chain asked i) (b .chains .rows i l .1))
         (λ i l. alone-tree _ (omega (arith, right-word (getD rs (base + i) 0) (fits i l .row), right-fits rd (getD rs (base + i) 0))))
       where
         alone-tree : (x : ℕ) → x ≤ length rd → alone ws rl name x ≡ cornerOf ws rl tl (treeAt td first) x
@@ -236,4 +237,5 @@ module _ (ws rl td tl : List ℕ) (k : Ready ws rl td tl) where
                       ∙ ap (λ (a : ℕ). joinRow rd a (getD rs₂ (base + q + i) 0) (following ws vs rs₂ (base + q) a)) e
                       ∙ ap₂ (joinRow rd (getD rs (base + i) 0))
                       (tree-corner i n ∙ ap (cornerOf ws rl tl (treeAt td first)) (y .keep i n ∙ x .keep i l)) (next i l);
+                  path = y .path ∙ x .path;
                 }

@@ -79,8 +79,8 @@ module _ (ws rl td tl : List ℕ) (k : Ready ws rl td tl) (asked rs ls : List �
         let w = window-below td (k .listing .outline) (suc first) row in
         foreign-none ws rl td tl k (suc first) (below td (suc first)) (w .stands) (λ y a c. foreign y a (omega (arith, size-below td (k .listing .outline) (suc first) row))) x h
 
-    module _ (ms : List ℕ) (p : Put ls first 15 l ms) where
-      -- the row itself gets 15, and the rows below it fit no row of the path
+    module _ (ms : List ℕ) (p : Put ls first 63 l ms) where
+      -- the row itself gets 63, and the rows below it fit no row of the path
       bare-told : (y : ℕ) → first < y → y ≤ last → Dec (y ≤ suc first) → Told Fit rd td asked l ms y
       bare-told y a c (yes e) i v m n o =
           let s : y ≡ suc first = omega arith in
@@ -90,7 +90,7 @@ module _ (ws rl td tl : List ℕ) (k : Ready ws rl td tl) (asked rs ls : List �
       pub bare-through : (ss : List ℕ) → Written rs base q (joinedAlone ws rl (at tl (suc first)) asked rs base) ss → TreePass r asked ss ms
       bare-through ss v =
           without-through r ends (λ o. without (chain asked 0) (s .path .rows 0 o) (s .path .inner 0 o)) asked ss ms (λ y a c. bare-told y a c (decLe y (suc first)))
-          (kept-one ls first 15 l ms r (omega (arith, ends)) p) (leaf-ends ws rl td tl k asked rs base q first b h fits empty ss v)
+          (kept-one ls first 63 l ms r (omega (arith, ends)) p) (leaf-ends ws rl td tl k asked rs base q first b h fits empty ss v)
 
   -- a row with rows below it
   module _ (kids : 1 ≤ descendants td (suc first)) (us : List ℕ) (z : ℕ) (x : Extends ws asked rs base q q us z) where
@@ -138,7 +138,7 @@ module _ (ws rl td tl : List ℕ) (k : Ready ws rl td tl) (asked rs ls : List �
           without-through r plain-last (λ o. with-path (chain asked 0) 0 o (s .path .rows 0 o) (s .path .inner 0 o) (omega arith, refl)) us ss ms
           (λ y a c i v m n o. rw (p .none (omega (arith, o .few)) y a (omega (arith, plain-last)))
           (λ h. absurd (with-path v (o .nth) (o .few) (o .row) (o .inner) (o .on) (y, omega arith, c, h)), λ f w. absurd (omega arith)))
-          (p .kept) (alone-ends ws rl td tl k asked rs base q first b h fits us (asked-fewer (length rd) us q z (x .least) chains) (x .keep)
+          (p .kept) (alone-ends ws rl td tl k asked rs base q first b h fits us (asked-fewer (length rd) us q z (x .least) chains) (x .keep) (x .path)
           (λ i o. rw (x .keep i o) at (on-chain i (omega (arith, x .least))))
           (after-asked x (λ (v : ℕ). alone ws rl name v ≡ cornerOf ws rl tl (treeAt td first) v) on-chain (alone-none ws rl name)) ss w)
 
@@ -225,7 +225,7 @@ module _ (ws rl td tl : List ℕ) (k : Ready ws rl td tl) (asked rs ls : List �
                     on-deep = omega (arith, chained-deep rd (k .outline) (chain asked (o .nth)) (s .path .rows (o .nth) (o .few)) v (o .on))
 
         -- and the tree includes all rows of the path from the place on
-        place-within : (i v : ℕ) → i < 15 → OnPath rd asked l i v → place ≤ i → Within Fit rd td v (suc first)
+        place-within : (i v : ℕ) → i < 63 → OnPath rd asked l i v → place ≤ i → Within Fit rd td v (suc first)
         place-within i v low o c = go f
           where
             go : FirstPlace ws vs rs₂ (base + q) l place → Within Fit rd td v (suc first)

@@ -1,4 +1,4 @@
--- The chains that are asked: a list of recipe rows, and for each row its place in the list. Assumes nothing.
+-- The chains that are asked: a list of recipe rows, how many of them make the path sought, and for each row its place in the list. Assumes nothing.
 use mathlib.Core.Path.{_≡_}
 use mathlib.Core.List.{List}
 use Prim.Native.Nat.{ℕ, suc, _+_, _≤_, _<_}
@@ -11,6 +11,10 @@ chain ws i = getD ws i 0
 
 abbrev pub noted : List ℕ → ℕ → ℕ
 noted ws y = getD ws (256 + y) 0
+
+-- how many of the chains asked, from the first on, make the path that is sought
+abbrev pub pathChains : List ℕ → ℕ
+pathChains ws = getD ws 256 0
 
 -- of the 513 words, the first z chains asked are different rows of the m rows, each noted at its place
 pub record Asked (m : ℕ) (ws : List ℕ) (z : ℕ) : Type 0 where
@@ -33,6 +37,7 @@ pub record Asks (ws : List ℕ) (z y : ℕ) (us : List ℕ) (n : ℕ) : Type 0 w
   pub keep : Keep ws us z
   pub asked : (m : ℕ) → m ≤ 256 → y ≤ m → Asked m ws z → Asked m us n
   pub member : 1 ≤ y → Member us n y
+  pub path : pathChains us ≡ pathChains ws
 
 -- the chain after the corner that stands at i in room; 0 where there is none
 abbrev pub after : List ℕ → List ℕ → ℕ → ℕ
@@ -45,3 +50,4 @@ pub record Extends (shape ws room : List ℕ) (base q k : ℕ) (us : List ℕ) (
   pub keep : Keep ws us q
   pub asked : (m : ℕ) → m ≤ 256 → ((i : ℕ) → i < k → after shape room (base + i) ≤ m) → Asked m ws q → Asked m us n
   pub member : (i : ℕ) → i < k → 1 ≤ after shape room (base + i) → Member us n (after shape room (base + i))
+  pub path : pathChains us ≡ pathChains ws

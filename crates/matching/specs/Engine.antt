@@ -12,7 +12,7 @@ use Rattle.rows.specs.Embedding.{SameLabel}
 use Rattle.matching.specs.Family.{rightSibling}
 use Rattle.matching.specs.CornerRow.{joinRow, cornerAt}
 use Rattle.matching.specs.Shape.{word, Shape, Foreign, Kinds}
-use Rattle.matching.specs.Asked.{Asked, Keep, chain}
+use Rattle.matching.specs.Asked.{Asked, Keep, chain, pathChains}
 use Rattle.matching.specs.EarliestClose.{Holds}
 use Rattle.matching.specs.Placing.{HeldIn, FirstIn}
 use Rattle.matching.specs.Path.{Path, Told, Kept, Logged}
@@ -40,6 +40,7 @@ pub record Ends (ws rl asked rs : List ℕ) (base q : ℕ) (value : ℕ → ℕ)
   pub words : length ss ≡ roomWords
   pub before : (j : ℕ) → j < base → getD ss j 0 ≡ getD rs j 0
   pub corners : (i : ℕ) → i < q → getD ss (base + i) 0 ≡ value i
+  pub path : pathChains us ≡ pathChains asked
 
 -- the tree whose first row stands behind `first` rows
 abbrev pub treeAt : List ℕ → ℕ → Forest ℕ

@@ -17,7 +17,7 @@ pub record Cleared (rd m₀ m : List ℕ) : Type 0 where
 -- the map before any row is placed; or, where t is known as the image of row 1, behind that row, with marks for the rows of row 1's chain
 pub record Begun (rd : List ℕ) (t : ℕ) (m₀ : List ℕ) (n : ℕ) (m : List ℕ) : Type 0 where
   pub none : t ≡ 0 → (n ≡ 0) × (m ≡ m₀)
-  pub known : 1 ≤ t → (n ≡ 1) × (m′ : List ℕ) × Marks rd (1 ∷ []) 1 15 m₀ m′ × (m ≡ set m′ 0 t)
+  pub known : 1 ≤ t → (n ≡ 1) × (m′ : List ℕ) × Marks rd (1 ∷ []) 1 63 m₀ m′ × (m ≡ set m′ 0 t)
 
 -- the first n rows of the map m have their images, later rows have none or marks, slots behind the recipe's rows stand as in m₀, and the
 -- chains, the room and the log have their sizes

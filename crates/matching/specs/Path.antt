@@ -3,9 +3,10 @@
 use mathlib.Core.Path.{_≡_}
 use mathlib.Core.Bool.{true, false}
 use mathlib.Core.List.{List}
-use Prim.Native.Nat.{ℕ, suc, _+_, _-_, _/_, _%_, _≤_, _<_, min}
+use Prim.Native.Nat.{ℕ, suc, _+_, _-_, _*_, _/_, _%_, _≤_, _<_, min}
 use lib.Dec.{leb}
-use lib.ListN.{length, getD, drop}
+use lib.ListN.{length, getD, set, drop}
+use Rattle.rows.specs.Limits.{listingRows}
 use Rattle.rows.specs.Rows.{at, Row, depth, descendants, lastRow, Ancestor, LeftOf}
 use Rattle.matching.specs.Family.{parent}
 use Rattle.matching.specs.CornerRow.{Chained}
@@ -49,22 +50,30 @@ pub data AsksNext (shape ws : List ℕ) (k most u : ℕ) (us : List ℕ) (n : �
 abbrev pub Within : (ℕ → ℕ → Type 0) → List ℕ → List ℕ → ℕ → ℕ → Type 0
 Within Fit rd td v t = HeldIn Fit rd td v t (lastRow td t)
 
--- the log has half a byte for each listing row: the lower halves are those of the first 2,048 rows, the upper ones of the others
+-- the log has six bits for each listing row: for the first 3,072 rows the lower six of their bytes, for the others the upper two of three bytes
 abbrev pub logBytes : ℕ
-logBytes = 2048
+logBytes = 3072
 
 unfoldable pub logged : List ℕ → ℕ → ℕ
-logged ls t = elim (leb t logBytes) [ true ↦ at ls t % 16 | false ↦ at ls (t - logBytes) / 16 ]
+logged ls t =
+    elim (leb t logBytes) [
+      | true ↦ at ls t % 64
+      | false ↦ elim (leb t listingRows) [ true ↦ at ls (t - 3072) / 64 + 4 * (at ls (t - 2048) / 64) + 16 * (at ls (t - 1024) / 64) | false ↦ 0 ]
+    ]
+
+-- the upper two bits of byte i become x
+abbrev pub topped : List ℕ → ℕ → ℕ → List ℕ
+topped ls i x = set ls i (64 * x + getD ls i 0 % 64)
 
 -- of listing row t and recipe row v at place i of a path: the log has at most i for t if t holds v; and where t fits v, only if t's tree
 -- includes v
 abbrev pub Tells : (ℕ → ℕ → Type 0) → List ℕ → List ℕ → List ℕ → ℕ → ℕ → ℕ → Type 0
 Tells Fit rd td ls t i v = (Holds Fit rd td v t → logged ls t ≤ i) × (Fit v t → logged ls t ≤ i → Within Fit rd td v t)
 
--- so the log tells of listing row t and the rows of the path behind its first, which is sought itself, as far as half a byte goes: 15 is the
+-- so the log tells of listing row t and the rows of the path behind its first, which is sought itself, as far as six bits go: 63 is the
 -- place of no row
 abbrev pub Told : (ℕ → ℕ → Type 0) → List ℕ → List ℕ → List ℕ → ℕ → List ℕ → ℕ → Type 0
-Told Fit rd td asked k ls t = (i v : ℕ) → 1 ≤ i → i < 15 → OnPath rd asked k i v → Tells Fit rd td ls t i v
+Told Fit rd td asked k ls t = (i v : ℕ) → 1 ≤ i → i < 63 → OnPath rd asked k i v → Tells Fit rd td ls t i v
 
 -- the log ls got `place` for the row behind `first` rows, unless there is no path: ms
 pub record Put (ls : List ℕ) (first place k : ℕ) (ms : List ℕ) : Type 0 where
@@ -77,9 +86,9 @@ pub record Kept (ls : List ℕ) (lo hi : ℕ) (ms : List ℕ) : Type 0 where
   pub size : length ms ≡ logBytes
   pub stays : (y : ℕ) → (lo ≤ y → y ≤ hi → ⊥) → logged ms y ≡ logged ls y
 
--- the log ls got 15, the place of no row, for the rows behind `first` rows up to row r, unless there is no path: ms
+-- the log ls got 63, the place of no row, for the rows behind `first` rows up to row r, unless there is no path: ms
 pub record Blank (ls : List ℕ) (first r k : ℕ) (ms : List ℕ) : Type 0 where
-  pub none : 1 ≤ k → (y : ℕ) → first < y → y ≤ r → logged ms y ≡ 15
+  pub none : 1 ≤ k → (y : ℕ) → first < y → y ≤ r → logged ms y ≡ 63
   pub kept : Kept ls (suc first) r ms
 
 -- a search behind `first` rows came upon row t: the path still stands in the chains us, the log tells of the tree at t, and of the rows
@@ -93,12 +102,12 @@ pub record Logged (Fit : ℕ → ℕ → Type 0) (rd td asked : List ℕ) (k : �
 abbrev pub Met : List ℕ → List ℕ → ℕ → ℕ → ℕ → Type 0
 Met ws asked k i w = (1 ≤ w) × (suc i < k → word 3 ws w < word 3 ws (chain asked (suc i)))
 
--- of the k corners from base on, r is how far the first that tells of the path stands below the path's first row; 15 where that is more, or
+-- of the k corners from base on, r is how far the first that tells of the path stands below the path's first row; 63 where that is more, or
 -- none tells of it
 pub data FirstPlace (ws asked rs : List ℕ) (base k r : ℕ) : Type 0 where
   met : (i : ℕ) → i < k → ((j : ℕ) → j < i → Met ws asked k j (getD rs (base + j) 0) → ⊥) → Met ws asked k i (getD rs (base + i) 0)
-      → r ≡ min 15 (word 3 ws (getD rs (base + i) 0) - word 3 ws (chain asked 0)) → FirstPlace ws asked rs base k r
-  none : ((j : ℕ) → j < k → Met ws asked k j (getD rs (base + j) 0) → ⊥) → r ≡ 15 → FirstPlace ws asked rs base k r
+      → r ≡ min 63 (word 3 ws (getD rs (base + i) 0) - word 3 ws (chain asked 0)) → FirstPlace ws asked rs base k r
+  none : ((j : ℕ) → j < k → Met ws asked k j (getD rs (base + j) 0) → ⊥) → r ≡ 63 → FirstPlace ws asked rs base k r
 
 -- slot c of the map m is as before in m′, or row c stands on the path behind its first row and has got its place as a mark, and so have the rows
 -- of the path between. The place is below `end`

@@ -28,7 +28,7 @@ use crate::tables::Tables;
 use crate::tables::check_tables;
 
 // How many rows the first pass seeks: row 1, where it is the only root and has rows below it; else none.
-fn sought_rows(shape: &[u16; 1156]) -> usize
+fn sought_rows(shape: &[u16; 1156]) -> u16
     ensures { λ r. ⌜ (r ≤ 1) × ((1 ≤ r) ↔ ((word 1 (now (shape .entry)) 1 ≡ 0) × (word 2 (now (shape .entry)) 1 ≡ 1 → ⊥))) ⌝ }
 {
     if right_of(shape, 1) != 0 {
@@ -75,7 +75,7 @@ fn top_corner(
     labels: &[u32],
     asked: &mut [u16; 513],
     room: &mut [u16; 14592],
-    log: &mut [u8; 2048],
+    log: &mut [u8; 3072],
 ) -> Top
     requires { ⌜ Ready (now shape) (now labels) (now depths) (now names) × (1 ≤ length (recipeOf (now shape) (now labels))) ⌝ }
     requires { ⌜ (length (now asked) ≡ 513) × (length (now room) ≡ roomWords) × (length (now log) ≡ logBytes) ⌝ }
@@ -91,10 +91,10 @@ fn top_corner(
     if labels.len() == 1 {
         return only_row(names, labels[0]);
     }
+    asked[256] = sought_rows(shape);
     asked[0] = 1;
     asked[257] = 0;
-    let k = sought_rows(shape);
-    let end = forest_corners(depths, names, shape, labels, asked, room, log, 0, 1, k, 0);
+    let end = forest_corners(depths, names, shape, labels, asked, room, log, 0, 1, 0);
     if rows::LISTING_ROWS < end {
         return Top {
             corner: 1,
@@ -180,7 +180,7 @@ fn answer_good(
     build(recipe, labels, &mut shape);
     let mut asked = [0u16; 513];
     let mut room = [0u16; 14592];
-    let mut log = [0u8; 2048];
+    let mut log = [0u8; 3072];
     let top = top_corner(
         depths,
         names,

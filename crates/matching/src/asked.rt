@@ -1,10 +1,11 @@
-// The chains that are asked of a tree: a list of recipe rows in the first 256 words, then for each row its place in the list.
+// The chains that are asked of a tree: a list of recipe rows in the first 256 words, then how many of them make the path that is sought, then
+// for each row its place in the list.
 ghost use mathlib.Core.Path.{_≡_};
 ghost use mathlib.Core.Bool.{true};
 ghost use mathlib.Core.Logic.{_↔_};
 ghost use Prim.Native.Nat.{ℕ, _≤_, _<_, _+_};
 ghost use lib.ListN.{getD};
-ghost use Rattle.matching.specs.Asked.{Asked, Member, Asks, after, Extends};
+ghost use Rattle.matching.specs.Asked.{Asked, pathChains, Member, Asks, after, Extends};
 ghost use Rattle.matching.specs.Room.{roomWords};
 use crate::shape::right_of;
 
@@ -12,6 +13,13 @@ pub(crate) fn wide(x: u16) -> usize
     ensures { λ r. ⌜ r ≡ x ⌝ }
 {
     x as usize
+}
+
+// How many chains the path sought has.
+pub(crate) fn path_chains(asked: &[u16; 513]) -> usize
+    ensures { λ r. ⌜ r ≡ pathChains (now (asked .entry)) ⌝ }
+{
+    wide(asked[256])
 }
 
 // Whether row y is among the first z.

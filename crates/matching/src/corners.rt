@@ -8,11 +8,12 @@ ghost use Rattle.rows.specs.Rows.{depth, lastRow};
 ghost use Rattle.rows.specs.Forest.{size, forestAt};
 ghost use Rattle.matching.specs.CornerRow.{OnChain};
 ghost use Rattle.matching.specs.Shape.{Shape, word};
-ghost use Rattle.matching.specs.Asked.{chain};
+ghost use Rattle.matching.specs.Asked.{chain, pathChains};
 ghost use Rattle.matching.specs.Path.{logBytes, Met, FirstPlace};
 ghost use Rattle.matching.specs.Engine.{Ready, Begins, Sought, Passed, Bare, cornerOf, withTree};
 ghost use Rattle.matching.specs.Room.{roomWords, recipeOf, Written, closed, joined, joinedAlone, Joins};
 use crate::asked::extend;
+use crate::asked::path_chains;
 use crate::joining::close_row;
 use crate::joining::join_alone;
 use crate::joining::join_row;
@@ -128,13 +129,13 @@ fn bare_end(depths: &[u16], names: &[u32], shape: &[u16; 1156], first: usize) ->
     end
 }
 
-// How many levels depth d is below depth top; 15 where it is more.
+// How many levels depth d is below depth top; 63 where it is more.
 fn levels_below(top: u16, d: u16) -> usize
     requires { ⌜ top ≤ d ⌝ }
-    ensures { λ r. ⌜ r ≡ min 15 (d - top) ⌝ }
+    ensures { λ r. ⌜ r ≡ min 63 (d - top) ⌝ }
 {
-    if 15 <= d - top {
-        return 15;
+    if 63 <= d - top {
+        return 63;
     }
     (d - top) as usize
 }
@@ -153,8 +154,8 @@ fn is_met(shape: &[u16; 1156], asked: &[u16; 513], k: usize, i: usize, w: u16) -
     true
 }
 
-// The place of the first row of the path that a tree includes, by its corners on the path's k chains, which stand from base on; 15 if it is
-// farther down, or there is none.
+// The place of the first row of the path that a tree includes, by its corners on the path's k chains, which stand from base on; 63 if there is
+// none.
 fn first_place(
     shape: &[u16; 1156],
     asked: &[u16; 513],
@@ -174,11 +175,11 @@ fn first_place(
         }
         i += 1;
     }
-    15
+    63
 }
 
 // Tree against forest: the tree whose first row stands behind `first` rows of the listing joins the q corners from base on, unless
-// one of its rows holds the first row of the path by k of the chains asked. The log notes for each of its rows whose label is of a kind that
+// one of its rows holds the first row of the path by the chains asked. The log notes for each of its rows whose label is of a kind that
 // the recipe has what its tree includes of the path.
 // Answers how many rows stand before the tree's end; or, beyond the limit of a listing, the row found.
 fn tree_corners(
@@ -188,29 +189,28 @@ fn tree_corners(
     labels: &[u32],
     asked: &mut [u16; 513],
     room: &mut [u16; 14592],
-    log: &mut [u8; 2048],
+    log: &mut [u8; 3072],
     base: usize,
     q: usize,
-    k: usize,
     first: usize,
 ) -> usize
-    requires { ⌜ Ready (now shape) (now labels) (now depths) (now names) × (first < length (now depths)) × Sought (now shape) (now labels) (now asked) q k ⌝ }
+    requires { ⌜ Ready (now shape) (now labels) (now depths) (now names) × (first < length (now depths)) × Sought (now shape) (now labels) (now asked) q (pathChains (now asked)) ⌝ }
     requires { ⌜ Begins (now shape) (now labels) (now asked) (now room) base q (depth (now depths) (suc first)) × (length (now log) ≡ logBytes) ⌝ }
     requires { ⌜ ((i : ℕ) → i < q → OnChain (recipeOf (now shape) (now labels)) (chain (now asked) i) (getD (now room) (base + i) 0)) ⌝ }
     ensures { λ r. ⌜ Passed (now (shape .entry)) (now (labels .entry)) (now (depths .entry)) (now (names .entry)) (now (asked .entry)) (now (room .entry)) (now (log .entry)) base q
         (λ i. withTree (now (shape .entry)) (now (labels .entry)) (now (depths .entry)) (now (names .entry)) first (chain (now (asked .entry)) i) (getD (now (room .entry)) (base + i) 0))
-        k first (lastRow (now (depths .entry)) (suc first)) r (now (asked .exit)) (now (room .exit)) (now (log .exit)) ⌝ }
+        (pathChains (now (asked .entry))) first (lastRow (now (depths .entry)) (suc first)) r (now (asked .exit)) (now (room .exit)) (now (log .exit)) ⌝ }
 {
     let bare = bare_end(depths, names, shape, first);
     if bare != 0 {
-        write_log(log, first, 15, k);
+        write_log(log, first, 63, path_chains(asked));
         join_leaf(shape, labels, names[first], asked, room, base, q);
         return bare;
     }
     let z = extend(shape, asked, room, base, q);
     let plain = plain_tree(depths, names, shape, labels, asked, z, first);
     if plain.end != 0 {
-        write_none(log, first, plain.end, k);
+        write_none(log, first, plain.end, path_chains(asked));
         if plain.joins {
             join_leaf(shape, labels, names[first], asked, room, base, q);
         }
@@ -226,13 +226,13 @@ fn tree_corners(
         log,
         base + q,
         z,
-        k,
         first + 1,
     );
     if rows::LISTING_ROWS < end {
         return end;
     }
     close_asked(shape, labels, names[first], asked, room, base + q, z);
+    let k = path_chains(asked);
     let place = first_place(shape, asked, room, base + q, k);
     write_log(log, first, place as u8, k);
     if place == 0 {
@@ -252,17 +252,16 @@ pub(crate) fn forest_corners(
     labels: &[u32],
     asked: &mut [u16; 513],
     room: &mut [u16; 14592],
-    log: &mut [u8; 2048],
+    log: &mut [u8; 3072],
     base: usize,
     q: usize,
-    k: usize,
     first: usize,
 ) -> usize
-    requires { ⌜ Ready (now shape) (now labels) (now depths) (now names) × (first < length (now depths)) × Sought (now shape) (now labels) (now asked) q k ⌝ }
+    requires { ⌜ Ready (now shape) (now labels) (now depths) (now names) × (first < length (now depths)) × Sought (now shape) (now labels) (now asked) q (pathChains (now asked)) ⌝ }
     requires { ⌜ Begins (now shape) (now labels) (now asked) (now room) base q (depth (now depths) (suc first)) × (length (now log) ≡ logBytes) ⌝ }
     ensures { λ r. ⌜ Passed (now (shape .entry)) (now (labels .entry)) (now (depths .entry)) (now (names .entry)) (now (asked .entry)) (now (room .entry)) (now (log .entry)) base q
         (λ i. cornerOf (now (shape .entry)) (now (labels .entry)) (now (names .entry)) (forestAt (now (depths .entry)) first (depth (now (depths .entry)) (suc first))) (chain (now (asked .entry)) i))
-        k first (first + size (forestAt (now (depths .entry)) first (depth (now (depths .entry)) (suc first)))) r (now (asked .exit)) (now (room .exit)) (now (log .exit)) ⌝ }
+        (pathChains (now (asked .entry))) first (first + size (forestAt (now (depths .entry)) first (depth (now (depths .entry)) (suc first)))) r (now (asked .exit)) (now (room .exit)) (now (log .exit)) ⌝ }
 {
     clear(shape, room, base, q);
     let mut at = first;
@@ -273,19 +272,7 @@ pub(crate) fn forest_corners(
         if is_foreign(shape, names[at]) {
             at += 1;
         } else {
-            at = tree_corners(
-                depths,
-                names,
-                shape,
-                labels,
-                asked,
-                room,
-                log,
-                base,
-                q,
-                k,
-                at,
-            );
+            at = tree_corners(depths, names, shape, labels, asked, room, log, base, q, at);
         }
     }
     at

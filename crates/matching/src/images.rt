@@ -60,7 +60,7 @@ fn find_image(
     labels: &[u32],
     asked: &mut [u16; 513],
     room: &mut [u16; 14592],
-    log: &mut [u8; 2048],
+    log: &mut [u8; 3072],
     map: &mut [u16],
     v: u16,
     from: usize,
@@ -92,7 +92,7 @@ fn place_row(
     labels: &[u32],
     asked: &mut [u16; 513],
     room: &mut [u16; 14592],
-    log: &mut [u8; 2048],
+    log: &mut [u8; 3072],
     map: &mut [u16],
     v: u16,
 )
@@ -143,7 +143,7 @@ pub(crate) fn place_rows(
     labels: &[u32],
     asked: &mut [u16; 513],
     room: &mut [u16; 14592],
-    log: &mut [u8; 2048],
+    log: &mut [u8; 3072],
     known: usize,
     map: &mut [u16],
 )

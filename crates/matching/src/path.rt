@@ -14,14 +14,14 @@ use crate::asked::ask;
 use crate::shape::leaf_of;
 use crate::shape::right_of;
 
-// How many chains a path from row v on may have: 15, one for each place that the log can tell; one alone where the levels of a pass might not
-// have room, that is in the upper levels of a recipe of over 228 rows.
+// How many chains a path from row v on may have: 63, one for each place that the log can tell; fewer where the levels of a pass might not have
+// room, that is in a recipe of over 228 rows: 15, and in its upper levels one.
 fn most_chains(recipe: &[u16], v: u16) -> usize
     requires { ⌜ length (now recipe) ≤ 256 ⌝ }
     ensures { λ r. ⌜ (1 ≤ r) × ((k : ℕ) → k ≤ r → k ≤ length (now (recipe .entry)) → roomFor (length (now (recipe .entry))) k (64 - depth (now (recipe .entry)) v) ≤ roomWords) ⌝ }
 {
     if recipe.len() <= 228 {
-        return 15;
+        return 63;
     }
     if 4 <= rows::depth_of(recipe, rows::Opening(v as usize)) {
         return 15;
@@ -75,13 +75,13 @@ pub(crate) fn ask_path(
     requires { ⌜ Shape (now recipe) (now shape) × Outline (now recipe) × Row (now recipe) v × (1 ≤ descendants (now recipe) v) ⌝ }
     requires { ⌜ (length (now asked) ≡ 513) × (length (now recipe) ≤ length (now map)) ⌝ }
     ensures { λ r. ⌜ PathAsked (now (recipe .entry)) (now (asked .exit)) r × (chain (now (asked .exit)) 0 ≡ v) ⌝ }
-    ensures { λ r. ⌜ Marks (now (recipe .entry)) (now (asked .exit)) r 15 (now (map .entry)) (now (map .exit)) ⌝ }
+    ensures { λ r. ⌜ Marks (now (recipe .entry)) (now (asked .exit)) r 63 (now (map .entry)) (now (map .exit)) ⌝ }
 {
     let most = most_chains(recipe, v);
     let mut k = ask(asked, 0, v);
     let mut u = widest_child(recipe, shape, v);
     let mut place: u16 = 1;
-    while place < 15 {
+    while place < 63 {
         if leaf_of(shape, u) == u {
             return k;
         }
@@ -100,10 +100,10 @@ pub(crate) fn ask_path(
 // Marks in the map the rows of row 1's chain behind row 1 that have rows below them, where row 1 has such: their places are their depths.
 pub(crate) fn mark_chain(recipe: &[u16], shape: &[u16; 1156], map: &mut [u16])
     requires { ⌜ Shape (now recipe) (now shape) × Outline (now recipe) × (1 ≤ descendants (now recipe) 1) × (length (now recipe) ≤ length (now map)) ⌝ }
-    ensures { λ r. ⌜ Marks (now (recipe .entry)) (1 ∷ []) 1 15 (now (map .entry)) (now (map .exit)) ⌝ }
+    ensures { λ r. ⌜ Marks (now (recipe .entry)) (1 ∷ []) 1 63 (now (map .entry)) (now (map .exit)) ⌝ }
 {
     let mut place: u16 = 1;
-    while place < 15 {
+    while place < 63 {
         if leaf_of(shape, place + 1) == place + 1 {
             return;
         }

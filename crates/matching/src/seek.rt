@@ -40,7 +40,7 @@ pub(crate) fn seek_label(depths: &[u16], names: &[u32], name: u32, from: usize) 
 }
 
 // Whether the row behind `passed` rows has the label `name`, and at most `mark` in the log.
-fn is_logged(names: &[u32], name: u32, log: &[u8; 2048], mark: u16, passed: usize) -> bool
+fn is_logged(names: &[u32], name: u32, log: &[u8; 3072], mark: u16, passed: usize) -> bool
     requires { ⌜ (passed < listingRows) × (passed < length (now names)) ⌝ }
     ensures { λ r. ⌜ (r ≡ true) ↔ ((name ≡ at (now (names .entry)) (suc passed)) × (logged (now (log .entry)) (suc passed) ≤ mark)) ⌝ }
 {
@@ -55,7 +55,7 @@ pub(crate) fn seek_logged(
     depths: &[u16],
     names: &[u32],
     name: u32,
-    log: &[u8; 2048],
+    log: &[u8; 3072],
     mark: u16,
     from: usize,
 ) -> usize
@@ -90,7 +90,7 @@ pub(crate) fn seek(
     labels: &[u32],
     asked: &mut [u16; 513],
     room: &mut [u16; 14592],
-    log: &mut [u8; 2048],
+    log: &mut [u8; 3072],
     k: usize,
 ) -> usize
     requires { ⌜ Ready (now shape) (now labels) (now depths) (now names) × PathAsked (recipeOf (now shape) (now labels)) (now asked) k ⌝ }
@@ -98,9 +98,10 @@ pub(crate) fn seek(
     requires { ⌜ (length (now room) ≡ roomWords) × (length (now log) ≡ logBytes) ⌝ }
     ensures { λ r. ⌜ Found (now (shape .entry)) (now (labels .entry)) (now (depths .entry)) (now (names .entry)) (now (asked .entry)) (now (log .entry)) k first end r (now (asked .exit)) (now (room .exit)) (now (log .exit)) ⌝ }
 {
+    asked[256] = k as u16;
     let mut at = first;
     while at < end {
-        at = forest_corners(depths, names, shape, labels, asked, room, log, 0, k, k, at);
+        at = forest_corners(depths, names, shape, labels, asked, room, log, 0, k, at);
     }
     at - rows::LISTING_ROWS
 }

@@ -37,7 +37,7 @@ fn seek_in<'a>(
     labels: &[u32],
     asked: &mut [u16; 513],
     room: &mut [u16; 14592],
-    log: &mut [u8; 2048],
+    log: &mut [u8; 3072],
     k: usize,
 ) -> usize
     requires { ⌜ Ready (now shape) (now labels) (now (window .depths)) (now names) × PathAsked (recipeOf (now shape) (now labels)) (now asked) k ⌝ }
@@ -69,7 +69,7 @@ pub(crate) fn seek_behind(
     labels: &[u32],
     asked: &mut [u16; 513],
     room: &mut [u16; 14592],
-    log: &mut [u8; 2048],
+    log: &mut [u8; 3072],
     k: usize,
 ) -> usize
     requires { ⌜ Ready (now shape) (now labels) (now depths) (now names) × PathAsked (recipeOf (now shape) (now labels)) (now asked) k ⌝ }

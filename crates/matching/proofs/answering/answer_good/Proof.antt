@@ -28,7 +28,7 @@ top-corner-requires c κs =
         ready (a .recipe .now) (a .labels .now) (a .depths .now) (a .names .now) (a .map .now) (start .pre .0) (start .pre .1) (b .last .1 .1 .0) (b .ensures .0) (b .ensures .1),
         rw (recipe-is (a .recipe .now) (a .labels .now) (a .depths .now) (a .names .now) (a .map .now) (start .pre .0) (start .pre .1) (b .last .1 .1 .0) (b .ensures .0)) (start .pre .0 .recipe-some),
       ),
-      (length-replicate {A = ℕ} 513 0, length-replicate {A = ℕ} 14592 0, length-replicate {A = ℕ} 2048 0),
+      (length-replicate {A = ℕ} 513 0, length-replicate {A = ℕ} 14592 0, length-replicate {A = ℕ} 3072 0),
     )
 
 corner-of-requires : tie.Need-corner-of-requires

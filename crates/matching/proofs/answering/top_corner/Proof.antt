@@ -2,7 +2,8 @@
 use native.Mathlib.Omega.{arith}
 use mathlib.Core.Path.{sym, ap, _∙_}
 use Prim.Native.Nat.{ℕ, _<_}
-use lib.ListN.{length}
+use lib.ListN.{length, set, length-set}
+use lib.Seq.{getD-set-same}
 use Rattle.rows.specs.Forest.{Forest}
 use Rattle.matching.specs.Room.{recipeOf, sameLabel}
 use Rattle.matching.specs.Engine.{cornerOf}
@@ -45,6 +46,9 @@ element-write-asked c = search needs
 element-write-asked-2 : tie.Need-element-write-asked-2
 element-write-asked-2 c = search needs
 
+element-write-asked-3 : tie.Need-element-write-asked-3
+element-write-asked-3 c = search needs
+
 sought-rows-requires : tie.Need-sought-rows-requires
 sought-rows-requires c κs = search needs
 
@@ -55,12 +59,12 @@ forest-corners-requires c κs =
     let start = left .before .before .before .before in
     let g = start .pre in
     let f = sought .sought-rows .ensures in (
-      (g .0 .0, omega (arith, left .if1 .left), first-sought (g .0 .0) (g .0 .1) (start .args .asked .now) (g .1 .0) f),
-      (first-begins (g .0 .0) (g .0 .1) (start .args .asked .now) (g .1 .0) f (g .1 .1) _, g .1 .2),
+      (g .0 .0, omega (arith, left .if1 .left), first-sought (g .0 .0) (g .0 .1) (set (start .args .asked .now) 256 (sought .sought-rows .result)) (length-set (start .args .asked .now) 256 _ ∙ g .1 .0) (getD-set-same (start .args .asked .now) 256 _ 0 (omega (arith, g .1 .0))) f),
+      (first-begins (g .0 .0) (g .0 .1) (set (start .args .asked .now) 256 (sought .sought-rows .result)) (length-set (start .args .asked .now) 256 _ ∙ g .1 .0) (getD-set-same (start .args .asked .now) 256 _ 0 (omega (arith, g .1 .0))) f (g .1 .1) _, g .1 .2),
     )
 
-sub-t21 : tie.Need-sub-t21
-sub-t21 c = omega (arith, c .if3 .taken)
+sub-t23 : tie.Need-sub-t23
+sub-t23 c = omega (arith, c .if3 .taken)
 
 returns-3 : tie.Need-returns-3
 returns-3 c =
@@ -69,11 +73,11 @@ returns-3 c =
     let start = left .before .before .before .before in
     let g = start .pre in
     let n : 0 < length (start .args .depths .now) = omega (arith, left .if1 .left) in
-    let s = first-found (g .0 .0) (g .0 .1) (start .args .asked .now) (g .1 .0) (sought .sought-rows .ensures) n (c .before .forest-corners .ensures) (c .if3 .taken) in
+    let s = first-found (g .0 .0) (g .0 .1) (set (start .args .asked .now) 256 (sought .sought-rows .result)) (length-set (start .args .asked .now) 256 _ ∙ g .1 .0) (getD-set-same (start .args .asked .now) 256 _ 0 (omega (arith, g .1 .0))) (sought .sought-rows .ensures) n (c .before .forest-corners .ensures) (c .if3 .taken) in
     ((s .0, s .1), s .2)
 
-element-copy-out-t24 : tie.Need-element-copy-out-t24
-element-copy-out-t24 c = search needs
+element-copy-out-t13 : tie.Need-element-copy-out-t13
+element-copy-out-t13 c = search needs
 
 returns-4 : tie.Need-returns-4
 returns-4 c =
@@ -82,7 +86,7 @@ returns-4 c =
     let start = left .before .before .before .before in
     let g = start .pre in
     let n : 0 < length (start .args .depths .now) = omega (arith, left .if1 .left) in
-    let s = first-through (g .0 .0) (g .0 .1) (start .args .asked .now) (g .1 .0) (sought .sought-rows .ensures) n (c .before .before .forest-corners .ensures) (c .before .if3 .left) in
+    let s = first-through (g .0 .0) (g .0 .1) (set (start .args .asked .now) 256 (sought .sought-rows .result)) (length-set (start .args .asked .now) 256 _ ∙ g .1 .0) (getD-set-same (start .args .asked .now) 256 _ 0 (omega (arith, g .1 .0))) (sought .sought-rows .ensures) n (c .before .before .forest-corners .ensures) (c .before .if3 .left) in
     ((s .0, known-none), s .1)
 
 pub top-corner-spec : {M : Type 1} → statement M
@@ -93,11 +97,12 @@ top-corner-spec =
     shared-slice-read-only-row
     only-row-requires
     returns-2
+    sought-rows-requires
     element-write-asked
     element-write-asked-2
-    sought-rows-requires
+    element-write-asked-3
     forest-corners-requires
-    sub-t21
+    sub-t23
     returns-3
-    element-copy-out-t24
+    element-copy-out-t13
     returns-4)

@@ -54,7 +54,7 @@ returns c =
     let turn = c .before .before .before .before .before .before .before .before in
     let l = c .before .before .before .before .before .before .before .loop-test .taken in
     let m = c .before .before .before .before .before .is-met .ensures .0 (c .before .before .before .before .if1 .taken) in
-    met (turn .loop .i) l (turn .loop .inv .1) m (c .levels-below .ensures ∙ ap₂ (λ (d e : ℕ). min 15 (d - e)) (c .before .depth-of2 .ensures) (c .before .before .depth-of .ensures))
+    met (turn .loop .i) l (turn .loop .inv .1) m (c .levels-below .ensures ∙ ap₂ (λ (d e : ℕ). min 63 (d - e)) (c .before .depth-of2 .ensures) (c .before .before .depth-of .ensures))
 
 add-i : tie.Need-add-i Inv-loop μ-loop
 add-i c = omega arith

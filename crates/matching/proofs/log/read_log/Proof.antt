@@ -1,9 +1,7 @@
--- `matching::log::read_log` meets its contract: the half byte of the row. Assumes nothing.
-use mathlib.Core.Path.{_≡_, sym, ap, _∙_}
-use Prim.Native.Nat.{ℕ, suc, _-_, _/_}
+-- `matching::log::read_log` meets its contract: the six bits of the row. Assumes nothing.
+use mathlib.Core.Path.{_≡_, sym, _∙_}
+use Prim.Native.Nat.{suc, _-_}
 use native.Mathlib.Omega.{arith}
-use Rattle.rows.specs.Rows.{at}
-use Rattle.matching.specs.Path.{logBytes}
 use Rattle.matching.proofs.LogLaws.{logged-lower, logged-upper}
 use borrow.Author.Needs.{needs}
 use Rattle.matching.proofs.log.read_log.Statement.{statement}
@@ -27,15 +25,49 @@ element-copy-out-upper c = search needs
 upper-requires : tie.Need-upper-requires
 upper-requires c κs = search needs
 
+sub-upper : tie.Need-sub-upper
+sub-upper c = search needs
+
+element-copy-out-upper-2 : tie.Need-element-copy-out-upper-2
+element-copy-out-upper-2 c = search needs
+
+upper-requires-2 : tie.Need-upper-requires-2
+upper-requires-2 c κs = search needs
+
+mul-widened : tie.Need-mul-widened
+mul-widened c = search needs
+
+add-widened : tie.Need-add-widened
+add-widened c = search needs
+
+sub-upper-2 : tie.Need-sub-upper-2
+sub-upper-2 c = search needs
+
+element-copy-out-upper-3 : tie.Need-element-copy-out-upper-3
+element-copy-out-upper-3 c = search needs
+
+upper-requires-3 : tie.Need-upper-requires-3
+upper-requires-3 c κs = search needs
+
+mul-widened-2 : tie.Need-mul-widened-2
+mul-widened-2 c = search needs
+
+add-widened-2 : tie.Need-add-widened-2
+add-widened-2 c = search needs
+
 widened-requires-2 : tie.Need-widened-requires-2
 widened-requires-2 c κs = search needs
 
 returns-2 : tie.Need-returns-2
 returns-2 c =
-    let a = c .before .before .before .before .args in
-    let o = c .before .before .before .if1 .left in
-    let e : suc (a .first) - logBytes ≡ suc (a .first - logBytes) = omega (arith, o) in
-    c .widened2 .ensures ∙ c .before .upper .ensures .0 ∙ sym (logged-upper _ _ (omega (arith, o)) ∙ ap (λ (x : ℕ). at (a .log .now) x / 16) e)
+    let a = c .before .before .before .before .before .before .before .before .args in
+    let o = c .before .before .before .before .before .before .before .if1 .left in
+    let slot₁ : suc (a .first) - 3072 ≡ suc (a .first - 3072) = omega (arith, o) in
+    let slot₂ : suc (a .first) - 2048 ≡ suc (a .first - 2048) = omega (arith, o) in
+    let slot₃ : suc (a .first) - 1024 ≡ suc (a .first - 1024) = omega (arith, o) in
+    c .widened2 .ensures
+    ∙ rw (c .before .before .before .before .before .upper .ensures .0, c .before .before .before .upper2 .ensures .0, c .before .upper3 .ensures .0)
+    (sym (rw (slot₁, slot₂, slot₃) at (logged-upper (a .log .now) (suc (a .first)) (omega (arith, o)) (omega (arith, c .before .before .before .before .before .before .before .before .pre)))))
 
 pub read-log-spec : {M : Type 1} → statement M
 read-log-spec =
@@ -47,5 +79,15 @@ read-log-spec =
     returns
     element-copy-out-upper
     upper-requires
+    sub-upper
+    element-copy-out-upper-2
+    upper-requires-2
+    mul-widened
+    add-widened
+    sub-upper-2
+    element-copy-out-upper-3
+    upper-requires-3
+    mul-widened-2
+    add-widened-2
     widened-requires-2
     returns-2)

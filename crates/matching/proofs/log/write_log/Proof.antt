@@ -1,4 +1,4 @@
--- `matching::log::write_log` meets its contract: the row's half byte is written, and no other. Assumes nothing.
+-- `matching::log::write_log` meets its contract: the row's six bits are written, and no others. Assumes nothing.
 use mathlib.Core.Path.{ap}
 use Prim.Native.Nat.{ℕ, _+_, _*_}
 use native.Mathlib.Omega.{arith}
@@ -29,28 +29,29 @@ returns-2 : tie.Need-returns-2
 returns-2 c =
     let start = c .before .before .before .before in
     let a = start .args in
-    put-lower _ (start .pre .2) (a .place) (a .k) (start .pre .1) (a .first) (c .before .before .if2 .taken) _ (ap (λ (x : ℕ). 16 * x + a .place) (c .upper .ensures .0))
+    put-lower _ (start .pre .2) (a .place) (a .k) (start .pre .1) (a .first) (c .before .before .if2 .taken) _ (ap (λ (x : ℕ). 64 * x + a .place) (c .upper .ensures .0))
 
-mul-log-2 : tie.Need-mul-log-2
-mul-log-2 c = search needs
+put-upper-requires : tie.Need-put-upper-requires
+put-upper-requires c κs = search needs
 
-element-copy-out-lower : tie.Need-element-copy-out-lower
-element-copy-out-lower c = search needs
+sub-put-upper : tie.Need-sub-put-upper
+sub-put-upper c = search needs
 
-lower-requires : tie.Need-lower-requires
-lower-requires c κs = search needs
+put-upper-requires-2 : tie.Need-put-upper-requires-2
+put-upper-requires-2 c κs = search needs
 
-add-log-2 : tie.Need-add-log-2
-add-log-2 c = search needs
+sub-put-upper-2 : tie.Need-sub-put-upper-2
+sub-put-upper-2 c = search needs
 
-element-write-log-2 : tie.Need-element-write-log-2
-element-write-log-2 c = search needs
+put-upper-requires-3 : tie.Need-put-upper-requires-3
+put-upper-requires-3 c κs = search needs
 
 returns-3 : tie.Need-returns-3
 returns-3 c =
-    let start = c .before .before .before .before in
+    let start = c .before .before .before .before .before .before .before .before in
     let a = start .args in
-    put-upper _ (start .pre .2) (a .place) (a .k) (start .pre .1) (a .first) (omega (arith, c .before .before .if2 .left)) (start .pre .0) _ (ap (λ (x : ℕ). 16 * a .place + x) (c .lower .ensures .0))
+    rw (c .put-upper3 .ensures, c .before .before .put-upper2 .ensures, c .before .before .before .before .put-upper .ensures)
+    (put-upper (a .log .now) (start .pre .2) (a .place) (a .k) (start .pre .1) (a .first) (omega (arith, c .before .before .before .before .before .before .if2 .left)) (start .pre .0))
 
 pub write-log-spec : {M : Type 1} → statement M
 write-log-spec =
@@ -63,9 +64,9 @@ write-log-spec =
     add-log
     element-write-log
     returns-2
-    mul-log-2
-    element-copy-out-lower
-    lower-requires
-    add-log-2
-    element-write-log-2
+    put-upper-requires
+    sub-put-upper
+    put-upper-requires-2
+    sub-put-upper-2
+    put-upper-requires-3
     returns-3)

@@ -15,22 +15,22 @@ use Rattle.matching.proofs.path.ask_path.Statement.{statement}
 use Rattle.matching.proofs.path.ask_path.Tie as tie
 
 abbrev Inv-loop : tie.InvT-loop
-Inv-loop recipe shape asked₀ map₀ v most k₀ u₀ place₀ asked map k u place = (k ≤ most) × (place ≤ 15) × Asking recipe asked map₀ map v u k place
+Inv-loop recipe shape asked₀ map₀ v most k₀ u₀ place₀ asked map k u place = (k ≤ most) × (place ≤ 63) × Asking recipe asked map₀ map v u k place
 
 abbrev μ-loop : tie.MeasureT-loop
-μ-loop recipe shape asked₀ map₀ v most k₀ u₀ place₀ asked map k u place = 15 - place
+μ-loop recipe shape asked₀ map₀ v most k₀ u₀ place₀ asked map k u place = 63 - place
 
 abbrev start : tie.At-loop Inv-loop μ-loop → tie.Start Inv-loop μ-loop
 start c = c .before .before .before .before .before .before .before
 
 -- the path is asked, as far as it goes, and its rows have their marks
 done : (c : tie.At-loop Inv-loop μ-loop) → let a = start c .args in
-    (PathAsked (a .recipe .now) (c .loop .asked) (c .loop .k) × (chain (c .loop .asked) 0 ≡ a .v)) × Marks (a .recipe .now) (c .loop .asked) (c .loop .k) 15 (a .map .now) (c .loop .map)
+    (PathAsked (a .recipe .now) (c .loop .asked) (c .loop .k) × (chain (c .loop .asked) 0 ≡ a .v)) × Marks (a .recipe .now) (c .loop .asked) (c .loop .k) 63 (a .map .now) (c .loop .map)
 done c =
     let a = start c .args in
     let i = c .loop .inv .2 in
     let room = c .before .before .before .before .most-chains .ensures .1 (c .loop .k) (c .loop .inv .0) (asked-few _ _ _ (i .chains)) in
-    ((record { some = i .some; chains = i .chains; path = i .path; room = subst (λ (u : ℕ). roomFor (length (a .recipe .now)) (c .loop .k) (64 - depth (a .recipe .now) u) ≤ roomWords) (sym (i .first)) room }, i .first), marks-wide _ _ _ _ 15 _ _ (c .loop .inv .1) (i .marks))
+    ((record { some = i .some; chains = i .chains; path = i .path; room = subst (λ (u : ℕ). roomFor (length (a .recipe .now)) (c .loop .k) (64 - depth (a .recipe .now) u) ≤ roomWords) (sym (i .first)) room }, i .first), marks-wide _ _ _ _ 63 _ _ (c .loop .inv .1) (i .marks))
 
 -- the row at hand has rows below it
 inner : (c : tie.Else1 Inv-loop μ-loop) → 1 ≤ descendants (start (c .before .before .before) .args .recipe .now) (c .before .before .before .loop .u)
@@ -94,7 +94,7 @@ returns-2 c =
     let a = s .args in
     let e = asking-stop (a .recipe .now) (s .pre .0 .1) (s .pre .0 .0 .few) (a .shape .now) (turn .loop .asked) _ (a .map .now) (turn .loop .map) (a .v) (turn .loop .u) (turn .loop .k) (turn .loop .place) _ _
     (s .pre .0 .0) (turn .loop .inv .2) (c .before .ask-next .ensures) (inner (c .before .before .before)) (c .if2 .taken) in
-    subst (λ (us : List ℕ). (PathAsked (a .recipe .now) us (turn .loop .k) × (chain us 0 ≡ a .v)) × Marks (a .recipe .now) us (turn .loop .k) 15 (a .map .now) (turn .loop .map)) (sym e) (done turn)
+    subst (λ (us : List ℕ). (PathAsked (a .recipe .now) us (turn .loop .k) × (chain us 0 ≡ a .v)) × Marks (a .recipe .now) us (turn .loop .k) 63 (a .map .now) (turn .loop .map)) (sym e) (done turn)
 
 cast-map : tie.Need-cast-map Inv-loop μ-loop
 cast-map c = let turn = c .before .before .before .before .before .before in omega (arith, turn .loop .inv .2 .row, start turn .pre .0 .0 .few)

@@ -9,10 +9,10 @@ use Rattle.matching.proofs.path.mark_chain.Statement.{statement}
 use Rattle.matching.proofs.path.mark_chain.Tie as tie
 
 abbrev Inv-loop : tie.InvT-loop
-Inv-loop recipe shape map₀ place₀ map place = (place ≤ 15) × Chaining recipe map₀ map place
+Inv-loop recipe shape map₀ place₀ map place = (place ≤ 63) × Chaining recipe map₀ map place
 
 abbrev μ-loop : tie.MeasureT-loop
-μ-loop recipe shape map₀ place₀ map place = 15 - place
+μ-loop recipe shape map₀ place₀ map place = 63 - place
 
 loop-holds : tie.Need-loop-holds Inv-loop μ-loop
 loop-holds c =
@@ -33,7 +33,7 @@ same-length : tie.Need-same-length Inv-loop μ-loop
 same-length c = c .before .before .before .loop .inv .1 .marks .size
 
 returns : tie.Need-returns Inv-loop μ-loop
-returns c = let i = c .before .before .before .loop .inv in marks-wide _ _ _ _ 15 _ _ (i .0) (i .1 .marks)
+returns c = let i = c .before .before .before .loop .inv in marks-wide _ _ _ _ 63 _ _ (i .0) (i .1 .marks)
 
 cast-map : tie.Need-cast-map Inv-loop μ-loop
 cast-map c = omega (arith, c .before .before .loop-test .taken)
@@ -66,7 +66,7 @@ same-length-2 : tie.Need-same-length-2 Inv-loop μ-loop
 same-length-2 c = c .before .loop .inv .1 .marks .size
 
 returns-2 : tie.Need-returns-2 Inv-loop μ-loop
-returns-2 c = let i = c .before .loop .inv in marks-wide _ _ _ _ 15 _ _ (i .0) (i .1 .marks)
+returns-2 c = let i = c .before .loop .inv in marks-wide _ _ _ _ 63 _ _ (i .0) (i .1 .marks)
 
 pub mark-chain-spec : {M : Type 1} → statement M
 mark-chain-spec =

@@ -2,6 +2,7 @@
 use Prim.Native.Nat.{_-_, _<_}
 use native.Mathlib.Omega.{arith}
 use lib.ListN.{length}
+use Rattle.matching.proofs.AskedLaws.{asked-few}
 use Rattle.matching.proofs.Sweeps.{Sweep, sweep-none, sweep-beyond, sweep-end, sweep-size, sweep-sought, sweep-begins, sweep-deep, held-in, sweep-next, sweep-less}
 use Rattle.matching.proofs.seek.seek.Statement.{statement}
 use Rattle.matching.proofs.seek.seek.Tie as tie
@@ -11,6 +12,14 @@ Inv-loop depths first end names shape labels asked₀ room₀ log₀ k at₀ ask
 
 abbrev μ-loop : tie.MeasureT-loop
 μ-loop depths first end names shape labels asked₀ room₀ log₀ k at₀ asked room log at = length depths - at
+
+cast-asked : tie.Need-cast-asked Inv-loop μ-loop
+cast-asked c =
+    let g = c .before .before .before .pre in
+    omega (arith, asked-few _ _ _ (g .0 .1 .chains), g .0 .0 .shape .few)
+
+element-write-asked : tie.Need-element-write-asked Inv-loop μ-loop
+element-write-asked c = omega (arith, c .before .before .before .pre .0 .1 .chains .size)
 
 loop-holds : tie.Need-loop-holds Inv-loop μ-loop
 loop-holds c =
@@ -59,6 +68,8 @@ seek-spec =
     (tie.spec
     Inv-loop
     μ-loop
+    cast-asked
+    element-write-asked
     loop-holds
     forest-corners-requires
     loop-less
