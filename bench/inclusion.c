@@ -15,7 +15,7 @@ void *memset(void *at, int byte, u64 size);
 u64 inclusion_bench_include(const u16 *listing_depths, u64 a, const u32 *listing_labels, u64 b, const u16 *recipe_depths, u64 c,
                             const u32 *recipe_labels, u64 d, u16 *map, u64 e);
 
-enum { LISTING = 4096, RECIPE = 256, DEEPEST = 63, TURNS = 150, ROOM = 14592 };
+enum { LISTING = 4096, RECIPE = 256, DEEPEST = 63, TURNS = 150, ROOM = 14592, LOG = 3072 };
 
 static u16 td[LISTING], rd[RECIPE], map[RECIPE], map_c[RECIPE], map_s[RECIPE], map_t[RECIPE];
 static u32 tl[LISTING], rl[RECIPE];
@@ -34,7 +34,7 @@ static u32 next(u32 below)
 enum { PATH = 63, PATH_RECIPE = 228, PATH_DEPTH = 4, PATH_LARGE = 15 };
 static u16 parent[RECIPE + 1], right[RECIPE + 1], left[RECIPE + 1], leaf[RECIPE + 1], deep[RECIPE + 1];
 static u16 asked[RECIPE], place[RECIPE + 1], room[ROOM], mark[RECIPE + 1];
-static unsigned char logged[LISTING];
+static unsigned char logged[LOG]; /* six bits a row, as in the call */
 static u16 kinds[128]; /* a bit for each kind of label: labels that leave the same remainder by 2,048 are of one kind */
 static u16 last[LISTING + 1];
 
@@ -70,6 +70,28 @@ static u16 join_row(u16 a, u16 b, u16 w)
     if (a == 0) return b;
     if (b && deep[b] < deep[a]) return b;
     return w && deep[w] == deep[a] ? w : a;
+}
+
+/* what the log has for a row: of the first 3,072 six bits of one byte, of the others the upper two of three bytes */
+static int read_log(int t)
+{
+    if (t < LOG) return logged[t] & 63;
+    return logged[t - 3072] >> 6 | logged[t - 2048] >> 6 << 2 | logged[t - 1024] >> 6 << 4;
+}
+
+static void put_upper(int t, int bits)
+{
+    logged[t] = (unsigned char)(bits << 6 | (logged[t] & 63));
+}
+
+static void write_log(int t, int at, int k)
+{
+    if (!k) return;
+    if (t < LOG) {
+        logged[t] = (unsigned char)((logged[t] & 192) | at);
+        return;
+    }
+    put_upper(t - 3072, at & 3), put_upper(t - 2048, at >> 2 & 3), put_upper(t - 1024, at >> 4);
 }
 
 /* the recipe has no label of this kind */
@@ -141,7 +163,7 @@ static int tree_corners(int base, int q, int k, int first)
     u32 name = tl[first];
     int bare = bare_end(first);
     if (bare) {
-        if (k) logged[first] = PATH;
+        write_log(first, PATH, k);
         join_leaf(base, q, name);
         return bare;
     }
@@ -152,8 +174,8 @@ static int tree_corners(int base, int q, int k, int first)
     }
     int gain = name == tl[first + 1] ? gain_of(z, name) : 2, plain = gain < 2 ? plain_end(first) : 0;
     if (plain) {
-        for (int t = first; k && t < plain; t++)
-            logged[t] = PATH;
+        for (int t = first; t < plain; t++)
+            write_log(t, PATH, k);
         if (gain) join_leaf(base, q, name);
         return plain;
     }
@@ -162,7 +184,7 @@ static int tree_corners(int base, int q, int k, int first)
     for (int i = 0; i < z; i++)
         room[base + q + i] = close_row(name, asked[i], room[base + q + i]);
     int at = first_place(base + q, k);
-    if (k) logged[first] = (unsigned char)at;
+    write_log(first, at, k);
     if (!at) return -(first + 1);
     for (int i = 0; i < q; i++) {
         u16 a = room[base + i], y = right[a];
@@ -194,7 +216,7 @@ static u16 seek_logged(u32 name, int most, int at)
 {
     int hit = 0, stop = 0;
     for (; at < n && td[at] >= stop; at++)
-        if (tl[at] == name && logged[at] <= most) hit = at + 1, stop = td[at] + 1;
+        if (tl[at] == name && read_log(at) <= most) hit = at + 1, stop = td[at] + 1;
     return (u16)hit;
 }
 

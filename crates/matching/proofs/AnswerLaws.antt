@@ -59,7 +59,7 @@ module _ (rd rl td tl m : List ℕ) (g : GoodTables rd rl td tl) (room : length 
   kt = g .listing-formed .outline
 
   pub ready : Kinds rl ws → Ready ws rl td tl
-  ready kinds = record { outline = rw recipe-is kr; shape = rw recipe-is k; kinds = kinds; listing = g .listing-formed; names = sym (g .listing-slices); few = g .listing-few }
+  ready kinds = record { outline = rw recipe-is kr; shallow = rw recipe-is (g .recipe-formed .shallow); shape = rw recipe-is k; kinds = kinds; listing = g .listing-formed; names = sym (g .listing-slices); few = g .listing-few }
 
   fine : includeCheck rd rl td tl m ≡ Fine
   fine = check-fine rd rl td tl m ((tables-fine rd rl td tl) .1 g) room

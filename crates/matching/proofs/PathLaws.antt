@@ -13,7 +13,7 @@ use Rattle.matching.specs.Family.{parent}
 use Rattle.matching.specs.Asked.{chain, Keep}
 use Rattle.matching.specs.EarliestClose.{Tree}
 use Rattle.matching.specs.CornerRow.{Chained}
-use Rattle.matching.specs.Path.{logBytes, Path, OnPath, Within, Told, Put, Kept, FirstPlace, met, none}
+use Rattle.matching.specs.Path.{logBytes, Path, OnPath, Within, Told, Put, Kept}
 use Rattle.matching.proofs.Chains.{chained-row, chained-deep, chained-inside}
 use Rattle.matching.proofs.Family.{ParentView, root, child, parent-view}
 use Rattle.matching.proofs.Holds.{rest-below}
@@ -42,11 +42,6 @@ on-same rd asked us l i v e o =
 -- the log tells the same of a path by the same chains
 pub told-same : (Fit : ℕ → ℕ → Type 0) (rd td asked us : List ℕ) (l : ℕ) (ls : List ℕ) (t : ℕ) → Keep asked us l → Told Fit rd td us l ls t → Told Fit rd td asked l ls t
 told-same Fit rd td asked us l ls t e k i v a b o = k i v a b (on-same rd asked us l i v e o)
-
--- a place fits six bits
-pub place-most : {ws asked rs : List ℕ} {base k r : ℕ} → FirstPlace ws asked rs base k r → r ≤ 63
-place-most (met i l n h e) = omega arith
-place-most (none n e) = omega arith
 
 -- the changes of a log lie in a wider stretch too, and two that follow each other in both their stretches together
 pub kept-wide : (ls : List ℕ) (lo hi lo′ hi′ : ℕ) (ms : List ℕ) → lo′ ≤ lo → hi ≤ hi′ → Kept ls lo hi ms → Kept ls lo′ hi′ ms

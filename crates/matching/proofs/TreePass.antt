@@ -198,6 +198,11 @@ module _ (ws rl td tl : List ℕ) (k : Ready ws rl td tl) (asked rs ls : List �
         λ c. omega (arith, chain-word 0 (omega arith), w-word i o, w-deep i o c, path-tree rd (k .outline) asked l (s .path) 0 i (omega arith) o),
       )
 
+      -- a place fits six bits
+      pub place-fits : (place : ℕ) → FirstPlace ws vs rs₂ (base + q) l place → place ≤ 63
+      place-fits place (met i o n g e) = omega (arith, e, w-word i o, k .shallow (w i) (g .0, w-row i o))
+      place-fits place (none n e) = omega arith
+
       module _ (place : ℕ) (f : FirstPlace ws vs rs₂ (base + q) l place) (ms : List ℕ) (note : Put ms₁ first place l ms) where
         -- a corner tells of the path where the tree includes a row of its chain that stands on the path
         within-met : (i v : ℕ) → (o : OnPath rd asked l i v) → Within Fit rd td v (suc first) → Met ws vs l (o .nth) (w (o .nth)) × (depth rd (w (o .nth)) ≤ depth rd v)

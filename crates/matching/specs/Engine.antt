@@ -5,8 +5,8 @@ use mathlib.Core.List.{List, [], _∷_}
 use Prim.Native.Nat.{ℕ, suc, _+_, _-_, _≤_, _<_}
 use lib.Dec.{eqb}
 use lib.ListN.{length, getD}
-use Rattle.rows.specs.Limits.{listingRows}
-use Rattle.rows.specs.Rows.{at, descendants, lastRow, Outline, WellFormed}
+use Rattle.rows.specs.Limits.{listingRows, deepest}
+use Rattle.rows.specs.Rows.{at, Row, depth, descendants, lastRow, Outline, WellFormed}
 use Rattle.rows.specs.Forest.{Forest, nil, cons, below}
 use Rattle.rows.specs.Embedding.{SameLabel}
 use Rattle.matching.specs.Family.{rightSibling}
@@ -21,6 +21,7 @@ use Rattle.matching.specs.Room.{roomWords, roomFor, recipeOf, sameLabel}
 -- the shape and labels of a recipe, and the depths and labels of a listing, are whole
 pub record Ready (ws rl td tl : List ℕ) : Type 0 where
   pub outline : Outline (recipeOf ws rl)
+  pub shallow : (v : ℕ) → Row (recipeOf ws rl) v → depth (recipeOf ws rl) v ≤ deepest
   pub shape : Shape (recipeOf ws rl) ws
   pub listing : WellFormed td
   pub kinds : Kinds rl ws

@@ -3,7 +3,7 @@
 use mathlib.Core.Path.{_≡_}
 use mathlib.Core.Bool.{true, false}
 use mathlib.Core.List.{List}
-use Prim.Native.Nat.{ℕ, suc, _+_, _-_, _*_, _/_, _%_, _≤_, _<_, min}
+use Prim.Native.Nat.{ℕ, suc, _+_, _-_, _*_, _/_, _%_, _≤_, _<_}
 use lib.Dec.{leb}
 use lib.ListN.{length, getD, set, drop}
 use Rattle.rows.specs.Limits.{listingRows}
@@ -102,11 +102,10 @@ pub record Logged (Fit : ℕ → ℕ → Type 0) (rd td asked : List ℕ) (k : �
 abbrev pub Met : List ℕ → List ℕ → ℕ → ℕ → ℕ → Type 0
 Met ws asked k i w = (1 ≤ w) × (suc i < k → word 3 ws w < word 3 ws (chain asked (suc i)))
 
--- of the k corners from base on, r is how far the first that tells of the path stands below the path's first row; 63 where that is more, or
--- none tells of it
+-- of the k corners from base on, r is how far the first that tells of the path stands below the path's first row; 63 where none does
 pub data FirstPlace (ws asked rs : List ℕ) (base k r : ℕ) : Type 0 where
   met : (i : ℕ) → i < k → ((j : ℕ) → j < i → Met ws asked k j (getD rs (base + j) 0) → ⊥) → Met ws asked k i (getD rs (base + i) 0)
-      → r ≡ min 63 (word 3 ws (getD rs (base + i) 0) - word 3 ws (chain asked 0)) → FirstPlace ws asked rs base k r
+      → r ≡ word 3 ws (getD rs (base + i) 0) - word 3 ws (chain asked 0) → FirstPlace ws asked rs base k r
   none : ((j : ℕ) → j < k → Met ws asked k j (getD rs (base + j) 0) → ⊥) → r ≡ 63 → FirstPlace ws asked rs base k r
 
 -- slot c of the map m is as before in m′, or row c stands on the path behind its first row and has got its place as a mark, and so have the rows

@@ -2,7 +2,7 @@
 ghost use mathlib.Core.Path.{_≡_};
 ghost use mathlib.Core.Bool.{true};
 ghost use mathlib.Core.Logic.{_↔_};
-ghost use Prim.Native.Nat.{ℕ, suc, _≤_, _<_, _+_, _-_, min};
+ghost use Prim.Native.Nat.{ℕ, suc, _≤_, _<_, _+_};
 ghost use lib.ListN.{length, getD};
 ghost use Rattle.rows.specs.Rows.{depth, lastRow};
 ghost use Rattle.rows.specs.Forest.{size, forestAt};
@@ -129,17 +129,6 @@ fn bare_end(depths: &[u16], names: &[u32], shape: &[u16; 1156], first: usize) ->
     end
 }
 
-// How many levels depth d is below depth top; 63 where it is more.
-fn levels_below(top: u16, d: u16) -> usize
-    requires { ⌜ top ≤ d ⌝ }
-    ensures { λ r. ⌜ r ≡ min 63 (d - top) ⌝ }
-{
-    if 63 <= d - top {
-        return 63;
-    }
-    (d - top) as usize
-}
-
 // Whether the corner w on the i-th of the path's k chains tells of it: it is a row, and stands above the next chain.
 fn is_met(shape: &[u16; 1156], asked: &[u16; 513], k: usize, i: usize, w: u16) -> bool
     requires { ⌜ (i < k) × (k ≤ 256) × (w ≤ 256) × (suc i < k → chain (now asked) (suc i) ≤ 256) ⌝ }
@@ -171,7 +160,7 @@ fn first_place(
     while i < k {
         let w = room[base + i];
         if is_met(shape, asked, k, i, w) {
-            return levels_below(depth_of(shape, asked[0]), depth_of(shape, w));
+            return (depth_of(shape, w) - depth_of(shape, asked[0])) as usize;
         }
         i += 1;
     }

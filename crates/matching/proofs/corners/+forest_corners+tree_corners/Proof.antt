@@ -5,9 +5,8 @@ use Rattle.rows.specs.Rows.{descendants}
 use Rattle.rows.proofs.Depths.{last-fits}
 use Rattle.matching.specs.Asked.{pathChains}
 use Rattle.matching.proofs.AskedLaws.{asked-more}
-use Rattle.matching.proofs.PathLaws.{place-most}
 use Rattle.matching.proofs.TreeJoins.{level-room, few, extend-fits, more-rows, z-few, chains-more, begins-below, z-room, close-fits, tree-joins}
-use Rattle.matching.proofs.TreePass.{belowEnd, BelowThrough, bare-through, plain-through, plain-still, sought-below, below-found, below-fits, tree-found, tree-through}
+use Rattle.matching.proofs.TreePass.{belowEnd, BelowThrough, bare-through, plain-through, plain-still, sought-below, below-found, below-fits, place-fits, tree-found, tree-through}
 use Prim.Native.Nat.{suc, _≤_, _+_, _-_, _*_}
 use mathlib.Core.Path.{_≡_, _∙_}
 use native.Mathlib.Omega.{arith}
@@ -448,9 +447,23 @@ tree-corners-first-place-requires t c κs =
 
 tree-corners-cast-write-log : (t : ℕ) → tree-corners-lts.Need-cast-write-log (tree-claims t) (tree-corners-at t) tree-corners.Post
 tree-corners-cast-write-log t c =
-    let start = c .before .before .before .before .before .before .before .before .before .before .before .before .before .before .before .before .before .before .before .before .before .before .before .before .before .before .before in
+    let ext = c .before .before .before .before .before .before .before .before .before .before .before .before .before .before .before .before .before .before .before in
+    let els = ext .before .before .before in
+    let start = els .before .before .before .before .before in
     let a = start .args in
-    omega (arith, place-most (c .before .first-place .ensures))
+    let m = some-rows t els in
+    let us = ext .extend .last .1 .0 in
+    let z = ext .extend .result in
+    let x = ext .extend .ensures in
+    let call = c .before .before .before .before .before .before .before .before .before .before .before .forest-corners in
+    let vs = call .last .1 .1 .1 .1 .0 in
+    let rs₁ = call .last .1 .1 .1 .1 .1 .0 in
+    let ms₁ = call .last .1 .1 .1 .1 .1 .1 .0 in
+    let p = through t (c .before .before .before .before .before .before .before .before .before .before) in
+    let rs₂ = c .before .before .before .before .before .before .close-asked .last .1 .1 .1 .1 .0 in
+    let w = c .before .before .before .before .before .before .close-asked .ensures in
+    let place = c .before .first-place in
+    omega (arith, place-fits (a .shape .now) (a .labels .now) (a .depths .now) (a .names .now) (start .pre .1 .0 .0) (a .asked .now) (a .room .now) (a .log .now) (a .base) (a .q) (pathChains (a .asked .now)) (a .first) (start .pre .1 .1 .0 .0) (start .pre .1 .0 .1) (start .pre .1 .0 .2) (start .pre .1 .1 .0 .1) (start .pre .1 .1 .1) m us z x vs rs₁ ms₁ (p .1) rs₂ w (place .result) (rw (c .before .before .before .before .path-chains3 .ensures ∙ p .1 .ends .path ∙ x .path) at (place .ensures)))
 
 tree-corners-write-log-requires-2 : (t : ℕ) → tree-corners-lts.Need-write-log-requires-2 (tree-claims t) (tree-corners-at t) tree-corners.Post
 tree-corners-write-log-requires-2 t c κs =
@@ -467,7 +480,10 @@ tree-corners-write-log-requires-2 t c κs =
     let rs₁ = call .last .1 .1 .1 .1 .1 .0 in
     let ms₁ = call .last .1 .1 .1 .1 .1 .1 .0 in
     let p = through t (c .before .before .before .before .before .before .before .before .before .before) in
-    (omega (arith, start .pre .1 .0 .1, start .pre .1 .0 .0 .few), omega (arith, place-most (c .before .first-place .ensures)), p .1 .kept .size)
+    let rs₂ = c .before .before .before .before .before .before .close-asked .last .1 .1 .1 .1 .0 in
+    let w = c .before .before .before .before .before .before .close-asked .ensures in
+    let place = c .before .first-place in
+    (omega (arith, start .pre .1 .0 .1, start .pre .1 .0 .0 .few), omega (arith, place-fits (a .shape .now) (a .labels .now) (a .depths .now) (a .names .now) (start .pre .1 .0 .0) (a .asked .now) (a .room .now) (a .log .now) (a .base) (a .q) (pathChains (a .asked .now)) (a .first) (start .pre .1 .1 .0 .0) (start .pre .1 .0 .1) (start .pre .1 .0 .2) (start .pre .1 .1 .0 .1) (start .pre .1 .1 .1) m us z x vs rs₁ ms₁ (p .1) rs₂ w (place .result) (rw (c .before .before .before .before .path-chains3 .ensures ∙ p .1 .ends .path ∙ x .path) at (place .ensures))), p .1 .kept .size)
 
 tree-corners-add-result : (t : ℕ) → tree-corners-lts.Need-add-result (tree-claims t) (tree-corners-at t) tree-corners.Post
 tree-corners-add-result t c =

@@ -1,10 +1,11 @@
 -- `matching::corners::first_place` meets its contract: no corner before the first that tells of the path does. Assumes nothing.
 use mathlib.Core.Path.{sym, ap₂, _∙_}
 use mathlib.Core.Bool.{true≢false}
-use Prim.Native.Nat.{ℕ, _+_, _<_, _≤_, _-_, min}
+use Prim.Native.Nat.{ℕ, _+_, _<_, _≤_, _-_}
 use native.Mathlib.Omega.{arith}
 use lib.ListN.{getD}
 use borrow.Author.Count.{below-more}
+use borrow.Author.Needs.{needs}
 use Rattle.matching.specs.Path.{Met, met, none}
 use Rattle.matching.proofs.corners.first_place.Statement.{statement}
 use Rattle.matching.proofs.corners.first_place.Tie as tie
@@ -33,28 +34,31 @@ is-met-requires c κs =
     let l = c .before .loop-test .taken in
     (l, start .pre .0 .0, start .pre .1 (c .before .before .loop .i) l .1, λ h. start .pre .1 _ h .0)
 
+depth-of-requires : tie.Need-depth-of-requires Inv-loop μ-loop
+depth-of-requires c κs = c .before .before .before .before .before .pre .1 (c .before .before .before .before .loop .i) (c .before .before .before .loop-test .taken) .1
+
 element-copy-out-depth-of : tie.Need-element-copy-out-depth-of Inv-loop μ-loop
 element-copy-out-depth-of c = omega arith
 
-depth-of-requires : tie.Need-depth-of-requires Inv-loop μ-loop
-depth-of-requires c κs = c .before .before .before .before .before .before .pre .1 0 (omega (arith, c .before .before .before .before .loop-test .taken)) .0
-
 depth-of-requires-2 : tie.Need-depth-of-requires-2 Inv-loop μ-loop
-depth-of-requires-2 c κs = c .before .before .before .before .before .before .before .pre .1 (c .before .before .before .before .before .before .loop .i) (c .before .before .before .before .before .loop-test .taken) .1
+depth-of-requires-2 c κs = c .before .before .before .before .before .before .before .pre .1 0 (omega (arith, c .before .before .before .before .before .loop-test .taken)) .0
 
-levels-below-requires : tie.Need-levels-below-requires Inv-loop μ-loop
-levels-below-requires c κs =
+sub-result : tie.Need-sub-result Inv-loop μ-loop
+sub-result c =
     let turn = c .before .before .before .before .before .before .before in
     let l = c .before .before .before .before .before .before .loop-test .taken in
     let m = c .before .before .before .before .is-met .ensures .0 (c .before .before .before .if1 .taken) in
-    omega (arith, c .depth-of2 .ensures, c .before .depth-of .ensures, turn .before .pre .1 (turn .loop .i) l .2 (m .0))
+    omega (arith, c .depth-of2 .ensures, c .before .before .depth-of .ensures, turn .before .pre .1 (turn .loop .i) l .2 (m .0))
+
+cast-result : tie.Need-cast-result Inv-loop μ-loop
+cast-result c = search needs
 
 returns : tie.Need-returns Inv-loop μ-loop
 returns c =
-    let turn = c .before .before .before .before .before .before .before .before in
-    let l = c .before .before .before .before .before .before .before .loop-test .taken in
-    let m = c .before .before .before .before .before .is-met .ensures .0 (c .before .before .before .before .if1 .taken) in
-    met (turn .loop .i) l (turn .loop .inv .1) m (c .levels-below .ensures ∙ ap₂ (λ (d e : ℕ). min 63 (d - e)) (c .before .depth-of2 .ensures) (c .before .before .depth-of .ensures))
+    let turn = c .before .before .before .before .before .before .before in
+    let l = c .before .before .before .before .before .before .loop-test .taken in
+    let m = c .before .before .before .before .is-met .ensures .0 (c .before .before .before .if1 .taken) in
+    met (turn .loop .i) l (turn .loop .inv .1) m (ap₂ (λ (d e : ℕ). d - e) (c .before .before .depth-of .ensures) (c .depth-of2 .ensures))
 
 add-i : tie.Need-add-i Inv-loop μ-loop
 add-i c = omega arith
@@ -81,10 +85,11 @@ first-place-spec =
     mul-w
     element-copy-out-w
     is-met-requires
-    element-copy-out-depth-of
     depth-of-requires
+    element-copy-out-depth-of
     depth-of-requires-2
-    levels-below-requires
+    sub-result
+    cast-result
     returns
     add-i
     loop-less
