@@ -11,7 +11,7 @@ import os
 import re
 import sys
 
-DECLARES = re.compile(r"^\s*(?:(?:abbrev|unfoldable|pub)\s+)*([^\W\d_A-Z][\w'-]*)\s*:\s")
+DECLARES = re.compile(r"^\s*(?:(?:abbrev|unfoldable|pub)\s+)*([^\W\d_A-Z][\w'-]*)\s*:(?:\s|$)")
 WORD = re.compile(r"(?<![\w'-])[A-Za-z_][\w'-]*")
 
 

@@ -19,11 +19,11 @@ module _ (ds : List ℕ) (i most : ℕ) where
   unfolding check_from
   check_deep h p q = rw (drop-cons ds i 0 h, le-ltb most _ p, lt-ltb deepest _ q, check_from)
 
-  pub check-good :
+  pub check_good :
       i < length ds → get_or ds i 0 ≤ most → get_or ds i 0 ≤ deepest →
       check_from (suc i) most (drop i ds) ≡ check_from (suc (suc i)) (suc (get_or ds i 0)) (drop (suc i) ds)
   unfolding check_from
-  check-good h p q = rw (drop-cons ds i 0 h, le-ltb most _ p, le-ltb deepest _ q, check_from)
+  check_good h p q = rw (drop-cons ds i 0 h, le-ltb most _ p, le-ltb deepest _ q, check_from)
 
   pub check_end : length ds ≤ i → check_from (suc i) most (drop i ds) ≡ Fine
   unfolding check_from

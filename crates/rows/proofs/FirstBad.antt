@@ -14,7 +14,7 @@ use Rattle.rows.specs.declared.RowCheck.TheVariants.{Fine, BadStep, TooDeep}
 use Rattle.rows.specs.Limits.{deepest}
 use Rattle.rows.specs.Rows.{depth, Row, WellFormed}
 use Rattle.rows.specs.FirstBad.{check_from, first_bad, most_at, BadStepAt, TooDeepAt, Says}
-use Rattle.rows.proofs.CheckLaws.{check_step, check_deep, check-good, check_end}
+use Rattle.rows.proofs.CheckLaws.{check_step, check_deep, check_good, check_end}
 
 -- row v is good: its step, and its depth
 abbrev pub Good : List ℕ → ℕ → Type 0
@@ -71,7 +71,7 @@ module _ (ds : List ℕ) where
   check_to zero h g = refl
   check_to (suc n) h g =
       let k = g (suc n) (omega arith) (omega arith) in
-      check_to n (omega arith) (λ v p q. g v p (omega arith)) ∙ check-good ds n (most_at ds (suc n)) h k.0 k.1
+      check_to n (omega arith) (λ v p q. g v p (omega arith)) ∙ check_good ds n (most_at ds (suc n)) h k.0 k.1
 
   -- so it does after a well-formed table of n rows
   check_before : (n : ℕ) → n < length ds → WellFormed (take (suc n - 1) ds) → first_bad ds ≡ check_from (suc n) (most_at ds (suc n)) (drop n ds)

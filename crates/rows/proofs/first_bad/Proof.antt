@@ -8,7 +8,7 @@ use native.Mathlib.Omega.{arith}
 use lib.ListN.{length, drop}
 use Rattle.rows.specs.FirstBad.{check_from, first_bad}
 use Rattle.rows.proofs.FirstBad.{fine_iff}
-use Rattle.rows.proofs.CheckLaws.{check_step, check_deep, check-good, check_end}
+use Rattle.rows.proofs.CheckLaws.{check_step, check_deep, check_good, check_end}
 use Rattle.rows.proofs.first_bad.Statement.{statement}
 use Rattle.rows.proofs.first_bad.Tie as tie
 
@@ -61,7 +61,7 @@ loop-less c = search rules
 loop-again : tie.Need-loop-preserved invariant-loop decreases-loop
 loop-again c =
     let turn = c.before.before.before in
-    let good = check-good turn.before.before.before.before.before.args.depths.now _ _ turn.loop-test.true c.before.if2.false (omega arith) in
+    let good = check_good turn.before.before.before.before.before.args.depths.now _ _ turn.loop-test.true c.before.if2.false (omega arith) in
     (search rules, simp add-one (cc))
 
 returns-4 : tie.Need-returns-4 invariant-loop decreases-loop
