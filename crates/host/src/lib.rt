@@ -1,4 +1,5 @@
 // What people touch: from an input's bytes, a recipe's parcel followed by a listing's, to its answer line.
+#![tactic(auto)]
 mod line;
 mod outcome;
 

@@ -9,7 +9,7 @@ use matching::{Answer, Corner};
 use parcels::{Limit, ReadAnswer};
 
 // The three kinds of line: the corner and how many images, the corner, or the number of a refusal and its place.
-#[derive(Drop)]
+#[derive(Clone, Copy)]
 pub(crate) enum Outcome {
     Included(Corner, usize),
     Absent(Corner),

@@ -1,5 +1,6 @@
 // The examples E1 to E10 of document 01, each with its line, and the sizes that only the inclusion call itself refuses. Brackets hold
 // children.
+#![tactic(auto)]
 use matching::{Answer, Corner, Refusal};
 
 // Writes a space and a number.

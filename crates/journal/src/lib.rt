@@ -1,4 +1,5 @@
 // Strike and undo: the engineer edits a listing by striking rows, and the journal takes strikes back.
+#![tactic(auto)]
 mod moves; // rows that gain or lose a level and move by one place, and the words of an entry
 mod judge; // which refusal, if any
 
@@ -12,7 +13,7 @@ pub const JOURNAL_WORDS: usize = 16384;
 pub const ENTRY_WORDS: usize = 4;
 
 // Why a call is refused: document 01's numbers 21 to 29, in their order. A bad row has its number.
-#[derive(Drop)]
+#[derive(Clone, Copy)]
 pub enum Refusal {
     TableSlices,
     RowCount,
@@ -60,14 +61,14 @@ pub fn place_of(why: Refusal) -> usize
 }
 
 // A judgement before anything is written.
-#[derive(Drop)]
+#[derive(Clone, Copy)]
 pub enum Verdict {
     Allowed,
     Denied(Refusal),
 }
 
 // What a call answers: the new count of rows and of entries, or the refusal.
-#[derive(Drop)]
+#[derive(Clone, Copy)]
 pub enum Answer {
     Done(usize, usize),
     Refused(Refusal),

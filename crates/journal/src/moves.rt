@@ -109,7 +109,7 @@ pub(crate) fn write_entry(
 }
 
 // An entry as it stands in the journal.
-#[derive(Drop)]
+#[derive(Clone, Copy)]
 pub struct Noted {
     pub row: u32,
     pub label: u32,

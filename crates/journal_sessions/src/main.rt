@@ -1,12 +1,13 @@
 // Plays the sessions of strikes and undos that standard input lists, and writes after each call its answer and every lent slot.
 // Input, in bytes: 3 begins a session (slots for depths, slots for labels, rows, words of the journal, entries, and then the slots' contents);
 // 1 and a row is a strike, and any other byte an undo.
+#![tactic(auto)]
 ghost use Rattle.std.specs.Prelude.{◌≤◌};
 
 use journal::Answer;
 
 // Where the reading stands, and the sizes and counts of the session in play.
-#[derive(Drop)]
+#[derive(Clone, Copy)]
 struct Play {
     at: usize,
     depth_slots: usize,

@@ -32,7 +32,7 @@ fn sought_rows(shape: &[u16; 1156]) -> u16
 
 // The corner of the whole listing as one row of the recipe, 0 where nothing is found; and the image of row 1, 0 where the search
 // did not come upon it.
-#[derive(Drop)]
+#[derive(Clone, Copy)]
 struct Top {
     corner: u16,
     image: usize,

@@ -1,4 +1,5 @@
 // The inclusion answer: whether a listing includes a recipe, with its map or its corner.
+#![tactic(auto)]
 mod answering;
 mod asked;
 mod corners;
@@ -19,7 +20,7 @@ pub use answering::include;
 pub use judging::judge;
 
 // Why a question about a recipe and a listing is refused: document 01's numbers 1 to 10, a bad row with its number.
-#[derive(Drop)]
+#[derive(Clone, Copy)]
 pub enum Refusal {
     RecipeSlices,
     RecipeEmpty,
@@ -34,14 +35,14 @@ pub enum Refusal {
 }
 
 // A left corner of the recipe: the first `width` subtrees of row `row`. Row 0 is above all roots.
-#[derive(Drop)]
+#[derive(Clone, Copy)]
 pub struct Corner {
     pub width: u16,
     pub row: u16,
 }
 
 // Whether the listing includes the recipe, with the highest and widest left corner that it does include.
-#[derive(Drop)]
+#[derive(Clone, Copy)]
 pub enum Answer {
     Included(Corner),
     Absent(Corner),
@@ -49,7 +50,7 @@ pub enum Answer {
 }
 
 // The plain judge's answer.
-#[derive(Drop)]
+#[derive(Clone, Copy)]
 pub enum Judgement {
     Included,
     Absent,

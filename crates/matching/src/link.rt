@@ -7,7 +7,7 @@ ghost use Rattle.matching.specs.Linked.{Climbs, no_deeper, Linked};
 use crate::shape::{depth_of, parent_of};
 
 // A row's left sibling, 0 if it has none, and its parent.
-#[derive(Drop)]
+#[derive(Clone, Copy)]
 pub(crate) struct Kin {
     pub left: u16,
     pub parent: u16,

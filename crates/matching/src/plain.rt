@@ -9,7 +9,7 @@ use crate::joining::label_of;
 use crate::shape::{leaf_of, parent_of, right_of};
 
 // The last row of such a tree, 0 where it is none; and whether it joins: else it changes nothing.
-#[derive(Drop)]
+#[derive(Clone, Copy)]
 pub(crate) struct Plain {
     pub end: usize,
     pub joins: bool,

@@ -6,7 +6,7 @@ use crate::Refusal;
 use rows::RowCheck;
 
 // Both tables are fine, or the question is refused.
-#[derive(Drop)]
+#[derive(Clone, Copy)]
 pub(crate) enum Tables {
     Fine,
     Refused(Refusal),

@@ -11,7 +11,7 @@ ghost use Rattle.matching.specs.Window.{Whole};
 use crate::seek::seek;
 
 // Rows that stand together in a table: those behind `first` rows, up to row `end`.
-#[derive(Drop)]
+#[derive(Clone, Copy)]
 struct Window<'a> {
     depths: &'a [u16],
     first: usize,

@@ -4,6 +4,7 @@
 // A case is nine words of four bytes: 0 to read or 1 to write; the start's low and high word; 0 for a recipe's limit or 1 for a
 // listing's; the input's length; the lengths of the lent depths and labels; the first value and the step that fill the slots, and the bytes to write.
 // After a case to read stands its input. Only the input and the slots that are asked for are lent.
+#![tactic(auto)]
 ghost use Rattle.std.specs.Prelude.{◌≡◌, ◌<◌, ◌≤◌, length};
 ghost use Rattle.parcels.specs.Refusals.{number_of, place_of};
 

@@ -6,7 +6,7 @@ ghost use Rattle.parcels.specs.Read.{most_rows, section_of, claim_of, Claim, dep
 use crate::{Limit, ReadAnswer, Refusal, numbers, sums};
 
 // What a look at one section finds: its count and the place after it, an input that ends inside it, or a count that is not right.
-#[derive(Drop)]
+#[derive(Clone, Copy)]
 pub(crate) enum Look {
     Whole(usize, usize),
     Cut,

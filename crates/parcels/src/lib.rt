@@ -1,4 +1,5 @@
 // Parcels: how a table travels. A parcel is read and written whole, or refused.
+#![tactic(auto)]
 mod fields;
 mod judge;
 mod numbers;
@@ -12,14 +13,14 @@ ghost use Rattle.parcels.specs.Write.{write_of, written};
 ghost use Rattle.parcels.specs.Read.{read_of, filled, labels_in, depths_in, Fillable};
 
 // Whose row limit holds.
-#[derive(Drop)]
+#[derive(Clone, Copy)]
 pub enum Limit {
     Recipe,
     Listing,
 }
 
 // Why a parcel is not read or not written, with its place in the input where that is not 0. specs/Refusals.antt has the numbers.
-#[derive(Drop)]
+#[derive(Clone, Copy)]
 pub enum Refusal {
     // The row slices to write differ in length.
     SlicesDiffer,
@@ -42,14 +43,14 @@ pub enum Refusal {
 }
 
 // What reading gives: the count of rows and the place after the parcel, or the refusal.
-#[derive(Drop)]
+#[derive(Clone, Copy)]
 pub enum ReadAnswer {
     Rows { count: usize, next: usize },
     Refused(Refusal),
 }
 
 // What writing gives: the parcel's length, or the refusal.
-#[derive(Drop)]
+#[derive(Clone, Copy)]
 pub enum WriteAnswer {
     Length(usize),
     Refused(Refusal),

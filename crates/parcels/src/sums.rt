@@ -7,7 +7,7 @@ ghost use Rattle.parcels.specs.Sums.{none, added, added_all};
 use crate::numbers;
 
 // The first sum adds up words; the second adds up the first sum's value after each word.
-#[derive(Drop)]
+#[derive(Clone, Copy)]
 pub(crate) struct Sums {
     pub first: u32,
     pub second: u32,

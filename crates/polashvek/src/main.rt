@@ -4,6 +4,7 @@
 // unread: a count over its limit is refused 16 where it stands, and else the first byte after the listing's parcel, which is
 // number 15's place, is among those read. No later byte can change the line: `line-front` of the host's laws proves it.
 // A read that fails is an input that ended there.
+#![tactic(auto)]
 fn main() {
     let mut input = [0u8; 26153];
     let count = io::read_full(libc::STDIN_FILENO, &mut input);

@@ -1,4 +1,6 @@
 // The rows of a table: their depths, their opening and closing numbers, and the first row that is bad.
+#![tactic(auto)]
+
 ghost use Rattle.std.specs.Prelude.{◌≡◌, true, ◌↔◌, ℕ, suc, ◌≤◌, ltb};
 ghost use Rattle.rows.specs.Limits.{deepest};
 ghost use Rattle.rows.specs.Rows.{depth, descendants, last_row, closing, is_ancestor, is_left_of, WellFormed};
@@ -12,15 +14,15 @@ pub const LISTING_ROWS: usize = 4096;
 pub const DEEPEST: u16 = 63;
 
 // A row's opening number (preorder) is its row number, from 1. Number 0 is the virtual parent of all roots.
-#[derive(Drop)]
+#[derive(Clone, Copy)]
 pub struct Opening(pub usize);
 
 // A row's closing number (postorder). It comes only from `closing_of`, and is compared only with another closing number.
-#[derive(Drop)]
+#[derive(Clone, Copy)]
 pub struct Closing(pub usize);
 
 // What a look at a table's depths finds, with the number of the first bad row.
-#[derive(Drop)]
+#[derive(Clone, Copy)]
 pub enum RowCheck {
     Fine,
     BadStep(usize),
