@@ -6,7 +6,6 @@ pub mod Asking
 pub mod Bare
 pub mod Best
 pub mod Bits
-pub mod ChainJoins
 pub mod Chains
 pub mod CornerLaws
 pub mod CornerRow

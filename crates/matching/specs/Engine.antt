@@ -84,12 +84,6 @@ pub record Bare (ws td tl : List ℕ) (first r : ℕ) : Type 0 where
   pub foreign : 1 ≤ r → (y : ℕ) → suc first < y → y ≤ r → Foreign ws (at tl y)
   pub more : r ≡ 0 → 1 ≤ descendants td (suc first)
 
--- the rows behind `first` rows go down one by one up to row r, and then out of the forest that they begin; always 0 where they do not
-pub record OneByOne (td : List ℕ) (first r : ℕ) : Type 0 where
-  pub low : 1 ≤ r → (first < r) × (r ≤ length td)
-  pub down : 1 ≤ r → (t : ℕ) → first < t → t < r → depth td t < depth td (suc t)
-  pub out : 1 ≤ r → r < length td → depth td (suc r) < depth td (suc first)
-
 -- the left-most leaf of one of the first z chains asked has the label a
 abbrev pub LeafAsked : List ℕ → List ℕ → List ℕ → ℕ → ℕ → Type 0
 LeafAsked ws rl asked z a = (i : ℕ) × (i < z) × (at rl (word 2 ws (chain asked i)) ≡ a)

@@ -6,7 +6,7 @@ ghost use Rattle.matching.specs.CornerRow.{OnChain};
 ghost use Rattle.matching.specs.Shape.{Shape, word};
 ghost use Rattle.matching.specs.Asked.{chain, path_chains};
 ghost use Rattle.matching.specs.Path.{log_bytes, Met, FirstPlace};
-ghost use Rattle.matching.specs.Engine.{Ready, Begins, Sought, Passed, Bare, OneByOne, corner_of, with_tree};
+ghost use Rattle.matching.specs.Engine.{Ready, Begins, Sought, Passed, Bare, corner_of, with_tree};
 ghost use Rattle.matching.specs.Room.{room_words, recipe_of, Written, closed, joined, joined_alone, Joins};
 
 use crate::asked::{extend, path_chains};
@@ -158,65 +158,6 @@ fn first_place(
     63
 }
 
-// Where the rows behind `first` rows, at most 16, go down one by one and then out of the forest that they begin, the last of them; else 0.
-fn chain_end(depths: &[u16], first: usize) -> usize
-    requires { first < length depths.now }
-    ensures { OneByOne depths.now first result }
-{
-    let mut end = first + 1;
-    while end < depths.len() {
-        if depths[end] < depths[first] {
-            return end;
-        }
-        if depths[end] <= depths[end - 1] {
-            return 0;
-        }
-        if first + 15 < end {
-            return 0;
-        }
-        end += 1;
-    }
-    end
-}
-
-// The forest of such rows of the listing, up to row `end`: they close from the last up, each over the one before. Answers as the two corner
-// functions do.
-fn chain_corners(
-    depths: &[u16],
-    names: &[u32],
-    shape: &[u16; 1156],
-    labels: &[u32],
-    asked: &[u16; 513],
-    room: &mut [u16; 14592],
-    log: &mut [u8; 3072],
-    base: usize,
-    q: usize,
-    first: usize,
-    end: usize,
-) -> usize
-    requires ready { Ready shape.now labels.now depths.now names.now × OneByOne depths.now first end × (1 ≤ end) × Sought shape.now labels.now asked.now q (path_chains asked.now) }
-    requires begins { Begins shape.now labels.now asked.now room.old base q (depth depths.now (suc first)) × (length log.old ≡ log_bytes) }
-    ensures { Passed shape.now labels.now depths.now names.now asked.now room.old log.old base q
-        (λ i. corner_of shape.now labels.now names.now (forest_at depths.now first (depth depths.now (suc first))) (chain asked.now i))
-        (path_chains asked.now) first (first + size (forest_at depths.now first (depth depths.now (suc first)))) result asked.now room.new log.new }
-{
-    clear(shape, room, base, q);
-    let k = path_chains(asked);
-    let mut at = end;
-    while first < at {
-        at -= 1;
-        if !is_foreign(shape, names[at]) {
-            close_asked(shape, labels, names[at], asked, room, base, q);
-            let place = first_place(shape, asked, room, base, k);
-            write_log(log, at, place as u8, k);
-            if place == 0 {
-                return rows::LISTING_ROWS + at + 1;
-            }
-        }
-    }
-    end
-}
-
 // Tree against forest: the tree whose first row stands behind `first` rows of the listing joins the q corners from base on, unless
 // one of its rows holds the first row of the path by the chains asked. The log notes for each of its rows whose label is of a kind that
 // the recipe has what its tree includes of the path.
@@ -304,12 +245,6 @@ pub(crate) fn forest_corners(
         (λ i. corner_of shape.now labels.now names.now (forest_at depths.now first (depth depths.now (suc first))) (chain asked.old i))
         (path_chains asked.old) first (first + size (forest_at depths.now first (depth depths.now (suc first)))) result asked.new room.new log.new }
 {
-    let chain = chain_end(depths, first);
-    if chain != 0 {
-        return chain_corners(
-            depths, names, shape, labels, asked, room, log, base, q, first, chain,
-        );
-    }
     clear(shape, room, base, q);
     let mut at = first;
     while at < depths.len() {
