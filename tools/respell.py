@@ -60,12 +60,13 @@ def main():
         return
     for path, before, _ in every:
         dashes = path.endswith(".antt")
+        of_function = path.count(os.sep) > 3
 
         def turn(found):
             word = found[0]
-            # what Rattle makes has dashes too: a field behind a value is never a lemma
+            # in the proof of a function what Rattle makes has dashes too: there a field behind a value is never a lemma
             behind = before[: found.start()]
-            if "-" in word and (not dashes or re.search(r"(?:[\w')\]]|\s)\.$", behind) and not re.search(r"[A-Z]\w*\.$", behind)):
+            if "-" in word and (not dashes or of_function and re.search(r"(?:[\w')\]]|\s)\.$", behind) and not re.search(r"[A-Z]\w*\.$", behind)):
                 return word
             if snake(word) == word and word in names and not re.search(rf"(?m)^\s*(?:pub )?{word} : ", before):
                 return word

@@ -153,7 +153,7 @@ module _ (input : List ℕ) (long : enough_bytes ≤ length input) (outcome : Ou
   pub said_front : Said first outcome map → Said input outcome map
   said_front s =
       let r = read_front input enough_bytes long 0 Recipe (zeros recipe_rows) (zeros recipe_rows) (omega arith) in
-      record { by_reading = recipe_front (recipe_read input) refl (rw r at s.by-reading) }
+      record { by_reading = recipe_front (recipe_read input) refl (rw r at s.by_reading) }
 
 -- the line of the first bytes is the line of the whole input
 pub line_front : (input bytes : List ℕ) → enough_bytes ≤ length input → LineIs (take enough_bytes input) bytes → LineIs input bytes

@@ -101,7 +101,7 @@ module _ (input : List ℕ) (size : length input < 2 ^ 64) where
 
   -- what is said of an input
   pub said_fits : (outcome : Outcome) (map : List ℕ) → Said input outcome map → Fits outcome map
-  said_fits outcome map s = recipe_fits outcome map (recipe_read input) refl s.by-reading
+  said_fits outcome map s = recipe_fits outcome map (recipe_read input) refl s.by_reading
 
   -- the line of an input
   pub line_fits : (bytes : List ℕ) → LineIs input bytes → length bytes ≤ answer_bytes
@@ -109,7 +109,7 @@ module _ (input : List ℕ) (size : length input < 2 ^ 64) where
 
 -- the C entry's answer counts bytes of the buffer
 pub entry_counts : {input before after : List ℕ} {r : ℕ} → Entry input before r after → r ≤ length after
-entry_counts {input} {before} {after} {r} e = go (ltb (length before) answer_bytes) e.by-room
+entry_counts {input} {before} {after} {r} e = go (ltb (length before) answer_bytes) e.by_room
   where
     go : (b : Bool) → Entered b input before r after → r ≤ length after
     go true e = omega (arith, e.0)

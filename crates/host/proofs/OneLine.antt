@@ -41,7 +41,7 @@ module _ (o p : Outcome) (m k : List ℕ) where
 
   -- one thing is said of an input, with one map
   pub said_one : (input : List ℕ) → Said input o m → Said input p k → (o ≡ p) × (m ≡ k)
-  said_one input f g = recipe_one input (recipe_read input) f.by-reading g.by-reading
+  said_one input f g = recipe_one input (recipe_read input) f.by_reading g.by_reading
 
 -- an input has one line
 pub line_one : (input x y : List ℕ) → LineIs input x → LineIs input y → x ≡ y
@@ -51,7 +51,7 @@ line_one input x y f g =
 
 -- a call of the C entry has one answer and leaves one buffer
 pub entry_one : (input before : List ℕ) (r s : ℕ) (x y : List ℕ) → Entry input before r x → Entry input before s y → (r ≡ s) × (x ≡ y)
-entry_one input before r s x y e d = go (ltb (length before) answer_bytes) e.by-room d.by-room
+entry_one input before r s x y e d = go (ltb (length before) answer_bytes) e.by_room d.by_room
   where
     go : (b : Bool) → Entered b input before r x → Entered b input before s y → (r ≡ s) × (x ≡ y)
     go true f g = (f.0 ∙ sym g.0, f.1 ∙ sym g.1)

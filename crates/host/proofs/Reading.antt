@@ -33,7 +33,7 @@ module _ (input : List ℕ) (start : ℕ) (limit : Limit) (depths labels : List 
 
   -- there is a slot for each row
   pub rows_fit : (n next : ℕ) → answer ≡ Rows n next → (n ≤ length depths) × (n ≤ length labels)
-  rows_fit n next f = let a = accepted input start limit depths labels n next (sym e ∙ f) in (a.depths-room, a.labels-room)
+  rows_fit n next f = let a = accepted input start limit depths labels n next (sym e ∙ f) in (a.depths_room, a.labels_room)
 
 -- the rows that were read are the first slots
 pub depths_taken : (input : List ℕ) (start n next : ℕ) (before after : List ℕ) {answer : ReadAnswer} → answer ≡ Rows n next

@@ -50,16 +50,16 @@ module _ (rd rl td tl m : List ℕ) (g : GoodTables rd rl td tl) (room : length 
   Fit = SameLabel rl tl
 
   pub recipe_is : recipe_of ws rl ≡ rd
-  recipe_is = recipe_of_lem rd ws rl k g.recipe-slices
+  recipe_is = recipe_of_lem rd ws rl k g.recipe_slices
 
   kr : Outline rd
-  kr = g.recipe-formed.outline
+  kr = g.recipe_formed.outline
 
   kt : Outline td
-  kt = g.listing-formed.outline
+  kt = g.listing_formed.outline
 
   pub ready : Kinds rl ws → Ready ws rl td tl
-  ready kinds = record { outline = rw recipe_is kr; shallow = rw recipe_is g.recipe-formed.shallow; shape = rw recipe_is k; kinds = kinds; listing = g.listing-formed; names = sym g.listing-slices; few = g.listing-few }
+  ready kinds = record { outline = rw recipe_is kr; shallow = rw recipe_is g.recipe_formed.shallow; shape = rw recipe_is k; kinds = kinds; listing = g.listing_formed; names = sym g.listing_slices; few = g.listing_few }
 
   fine : include_check rd rl td tl m ≡ Fine
   fine = check_fine rd rl td tl m ((tables_fine rd rl td tl).1 g) room
@@ -73,17 +73,17 @@ module _ (rd rl td tl m : List ℕ) (g : GoodTables rd rl td tl) (room : length 
     top = e ∙ ap (λ (r : List ℕ). corner_at (same_label rl tl) r (forest td) 1) recipe_is
 
     pub corner_low : w ≤ length rd
-    corner_low = omega (arith, top, corner_fits (same_label rl tl) rd kr (forest td) 1 g.recipe-some)
+    corner_low = omega (arith, top, corner_fits (same_label rl tl) rd kr (forest td) 1 g.recipe_some)
 
     -- the corner is document 01's
     corner_right : (i v : ℕ) → (i ≡ width_at rd w) × (v ≡ row_at rd w) → CornerIs Fit rd td i v
     corner_right i v p =
-        rw (p.0, p.1) (corner_at_lem Fit rd td kr g.recipe-some kt (same_label rl tl) (same_right rl tl) w top)
+        rw (p.0, p.1) (corner_at_lem Fit rd td kr g.recipe_some kt (same_label rl tl) (same_right rl tl) w top)
 
     -- and whole just on a yes
     pub whole_included : ((1 ≤ w) × (word 3 ws w ≡ 0) × (word 1 ws w ≡ 0)) ↔ Included Fit rd td
     whole_included =
-        let i = included_row Fit rd td kr g.recipe-some kt (same_label rl tl) (same_right rl tl) in
+        let i = included_row Fit rd td kr g.recipe_some kt (same_label rl tl) (same_right rl tl) in
         let d = k.depths w corner_low in
         let s = k.rights w corner_low in (
           λ h. i.1 (subst LastRoot top (h.0, sym d ∙ h.1, sym s ∙ h.2)),
@@ -94,7 +94,7 @@ module _ (rd rl td tl m : List ℕ) (g : GoodTables rd rl td tl) (room : length 
       pub answers_absent : ((1 ≤ w) × (word 3 ws w ≡ 0) × (word 1 ws w ≡ 0) → ⊥) → Answers rd rl td tl m (answer.Absent c) m
       answers_absent n =
           let i = corner_right c.width c.row p in
-          (fine, i, (λ h. n (whole_included.1 ((whole_iff Fit rd td kr g.recipe-some kt c.width c.row i).0 h))), refl)
+          (fine, i, (λ h. n (whole_included.1 ((whole_iff Fit rd td kr g.recipe_some kt c.width c.row i).0 h))), refl)
 
       pub answers_included : (1 ≤ w) × (word 3 ws w ≡ 0) × (word 1 ws w ≡ 0) → (n : List ℕ) → EarliestClose Fit rd td (take (length rd) n)
           → drop (length rd) n ≡ drop (length rd) m → Answers rd rl td tl m (answer.Included c) n
@@ -102,7 +102,7 @@ module _ (rd rl td tl m : List ℕ) (g : GoodTables rd rl td tl) (room : length 
           let i = corner_right c.width c.row p in (
             fine,
             i,
-            (whole_iff Fit rd td kr g.recipe-some kt c.width c.row i).1 (whole_included.0 y),
+            (whole_iff Fit rd td kr g.recipe_some kt c.width c.row i).1 (whole_included.0 y),
             (take (length rd) n, q, sym (take-append-drop (length rd) n) ∙ ap (λ (x : List ℕ). take (length rd) n ++ x) d),
           )
 
@@ -126,7 +126,7 @@ module _ (rd rl td tl m : List ℕ) where
 
   one_map : include_check rd rl td tl m ≡ Fine → (x y : List ℕ) → EarliestClose (SameLabel rl tl) rd td x → EarliestClose (SameLabel rl tl) rd td y → x ≡ y
   one_map e x y a b =
-      earliest_one (SameLabel rl tl) rd td ((tables_fine rd rl td tl).0 (fine_tables rd rl td tl m e)).listing-formed.outline x y a b
+      earliest_one (SameLabel rl tl) rd td ((tables_fine rd rl td tl).0 (fine_tables rd rl td tl m e)).listing_formed.outline x y a b
 
   -- a yes and a no are never both right
   not_yes_no : (c d : Corner) → CornerIs (SameLabel rl tl) rd td c.width c.row → CornerIs (SameLabel rl tl) rd td d.width d.row

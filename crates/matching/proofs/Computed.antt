@@ -88,10 +88,10 @@ module _ (rd rl td tl : List ℕ) where
     Fit = SameLabel rl tl
 
     kr : Outline rd
-    kr = g.recipe-formed.outline
+    kr = g.recipe_formed.outline
 
     kt : Outline td
-    kt = g.listing-formed.outline
+    kt = g.listing_formed.outline
 
     -- the tests are right
     tree_in_lem : (v : ℕ) → Row rd v → (f : Forest ℕ) → (tree_in v f ≡ true) ↔ LiesIn Fit (cons v (below rd v) nil) f
@@ -168,13 +168,13 @@ module _ (rd rl td tl : List ℕ) where
     meets m h = go is_whole refl
       where
         i : CornerIs Fit rd td corner.width corner.row
-        i = corner_at_lem Fit rd td kr g.recipe-some kt (same_label rl tl) (same_right rl tl) (corner_in 1 (forest td)) refl
+        i = corner_at_lem Fit rd td kr g.recipe_some kt (same_label rl tl) (same_right rl tl) (corner_in 1 (forest td)) refl
 
         go : (t : Bool) → is_whole ≡ t
             → Answers rd rl td tl m (answer_as t corner) (written_as t (images (length rd)) ++ drop (length (written_as t (images (length rd)))) m)
         go true e =
             let y = whole_test.0 e in
-            let p = placed ((whole_iff Fit rd td kr g.recipe-some kt corner.width corner.row i).0 y) (length rd) (omega arith) in
+            let p = placed ((whole_iff Fit rd td kr g.recipe_some kt corner.width corner.row i).0 y) (length rd) (omega arith) in
             let k = images (length rd) in (
               check_fine rd rl td tl m ((tables_fine rd rl td tl).1 g) h,
               i,

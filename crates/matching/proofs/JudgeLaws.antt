@@ -18,8 +18,8 @@ module _ (rd rl td tl : List ℕ) where
   -- on good tables a search of all rows tells whether the listing includes the recipe
   pub tells_included : GoodTables rd rl td tl → (r : Bool) → Tells rd rl 0 (length rd) td tl 0 (length td) r → (r ≡ true) ↔ Included (SameLabel rl tl) rd td
   tells_included g r told =
-      let recipe = g.recipe-formed.outline in
-      let listing = g.listing-formed.outline in
+      let recipe = g.recipe_formed.outline in
+      let listing = g.listing_formed.outline in
       let lies = told (forest rd) (forest td) (draws_forest rd recipe) (draws_forest td listing) in
       let included = included_iff (SameLabel rl tl) rd td recipe listing in
       (λ e. included.1 (lies.0 e), λ i. lies.1 (included.0 i))

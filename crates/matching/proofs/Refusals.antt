@@ -77,8 +77,8 @@ tables_fine rd rl td tl =
           },
       λ g.
           both.1 (
-            recipe.1 (g.recipe-slices, (g.recipe-some, (g.recipe-few, g.recipe-formed))),
-            listing.1 (g.listing-slices, (g.listing-few, g.listing-formed)),
+            recipe.1 (g.recipe_slices, (g.recipe_some, (g.recipe_few, g.recipe_formed))),
+            listing.1 (g.listing_slices, (g.listing_few, g.listing_formed)),
           ),
     )
 

@@ -32,7 +32,7 @@ module _ (rd rl td tl m : List ℕ) (c : Corner) (n : List ℕ) where
   pub yes_embeds : (a : Answers rd rl td tl m (answer.Included c) n) → Embedding (SameLabel rl tl) rd td a.3.0
   yes_embeds a =
       let g = good a.0 in
-      earliest_embeds (SameLabel rl tl) rd td g.recipe-formed.outline g.listing-formed.outline a.3.0 a.3.1
+      earliest_embeds (SameLabel rl tl) rd td g.recipe_formed.outline g.listing_formed.outline a.3.0 a.3.1
 
   pub yes_included : Answers rd rl td tl m (answer.Included c) n → Included (SameLabel rl tl) rd td
   yes_included a = (a.3.0, yes_embeds a)
@@ -41,7 +41,7 @@ module _ (rd rl td tl m : List ℕ) (c : Corner) (n : List ℕ) where
   pub no_excluded : Answers rd rl td tl m (answer.Absent c) n → Included (SameLabel rl tl) rd td → ⊥
   no_excluded a i =
       let g = good a.0 in
-      a.2 ((whole_iff (SameLabel rl tl) rd td g.recipe-formed.outline g.recipe-some g.listing-formed.outline c.width c.row a.1).1 i)
+      a.2 ((whole_iff (SameLabel rl tl) rd td g.recipe_formed.outline g.recipe_some g.listing_formed.outline c.width c.row a.1).1 i)
 
   -- the plain judge says yes where the answer is yes, and no where it is no
   pub judge_yes : Answers rd rl td tl m (answer.Included c) n → (s : Judgement) → Judged rd rl td tl s → s ≡ judged.Included

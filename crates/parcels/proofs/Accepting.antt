@@ -121,7 +121,7 @@ fillable bytes start limit depths labels = go (read_of bytes start limit depths 
     go (Rows n next) e =
         let a = accepted bytes start limit depths labels n next e in
         let c = a.claimed in
-        (omega arith, a.depths-room, a.labels-room)
+        (omega arith, a.depths_room, a.labels_room)
 
 -- and only there: such an input is accepted
 claim_whole : (bytes : List ℕ) (start most n next : ℕ) → Claimed bytes start most n next → claim_of bytes start most ≡ Rows n next
@@ -140,4 +140,4 @@ claim_whole bytes start most n next c =
 pub accepts : (bytes : List ℕ) (start : ℕ) (limit : Limit) (depths labels : List ℕ) (n next : ℕ) → Accepted bytes start limit depths labels n next
     → read_of bytes start limit depths labels ≡ Rows n next
 accepts bytes start limit depths labels n next a =
-    rw (claim_whole bytes start (most_rows limit) n next a.claimed, a.agree, le-leb _ _ a.depths-room, le-leb _ _ a.labels-room)
+    rw (claim_whole bytes start (most_rows limit) n next a.claimed, a.agree, le-leb _ _ a.depths_room, le-leb _ _ a.labels_room)

@@ -87,8 +87,8 @@ module _ (r : Reading) where
   abbrev pub stretch : List ℕ
   stretch = take (r.next - r.start) (drop r.start r.bytes)
 
-  facts : Accepted r.bytes r.start r.limit r.depth-slots r.label-slots r.count r.next
-  facts = accepted r.bytes r.start r.limit r.depth-slots r.label-slots r.count r.next r.answer
+  facts : Accepted r.bytes r.start r.limit r.depth_slots r.label_slots r.count r.next
+  facts = accepted r.bytes r.start r.limit r.depth_slots r.label_slots r.count r.next r.answer
 
   -- they are 20 + 6n
   pub stretch_length : length stretch ≡ 20 + 6 * r.count

@@ -76,7 +76,7 @@ module _ (bytes : List ℕ) (start : ℕ) (depths labels rest : List ℕ) (table
   first : Stands bytes start 4 labels (section 2 depths ++ (section 4 sums ++ rest))
   unfolding parcel_of
   first =
-      stands bytes start 4 labels (section 2 depths ++ (section 4 sums ++ rest)) (omega arith) table.labels-fit
+      stands bytes start 4 labels (section 2 depths ++ (section 4 sums ++ rest)) (omega arith) table.labels_fit
       (e ∙ rw (
         append-nil (section 4 sums),
         append_assoc (section 4 labels) (section 2 depths ++ section 4 sums) rest,
@@ -85,7 +85,7 @@ module _ (bytes : List ℕ) (start : ℕ) (depths labels rest : List ℕ) (table
       ))
 
   second : Stands bytes (after start 4 n) 2 depths (section 4 sums ++ rest)
-  second = stands bytes (after start 4 n) 2 depths (section 4 sums ++ rest) (omega (arith, table.same)) table.depths-fit first.next
+  second = stands bytes (after start 4 n) 2 depths (section 4 sums ++ rest) (omega (arith, table.same)) table.depths_fit first.next
 
   third : Stands bytes (after (after start 4 n) 2 n) 4 sums rest
   unfolding none

@@ -204,7 +204,7 @@ demand_one =
       judge = λ rd rl td tl r j. subst (ByTable (JudgeTable rd rl td tl)) (told_judgement rd rl td tl r j) (tables_rows rd rl td tl answered fine);
       read = λ bytes start limit depths labels r nd nl k. (
         rw (k.answer, ← read_seen) (read_rows bytes start limit depths labels answered (λ _ _ _. fine)),
-        λ f. (k.depths-after ∙ rows_kept r (depths_in bytes start) depths f, k.labels-after ∙ rows_kept r (labels_in bytes start) labels f),
+        λ f. (k.depths_after ∙ rows_kept r (depths_in bytes start) depths f, k.labels_after ∙ rows_kept r (labels_in bytes start) labels f),
       );
       write = λ depths labels bytes r new k. (
         rw k.answer (write_rows depths labels bytes),
@@ -212,11 +212,11 @@ demand_one =
       );
       strike = λ s row o m. by_verdict (struck s row) s o (journal.strike_verdict s row) (strike_rows s row) m;
       undo = λ s o m. by_verdict (undone s) s o (journal.undo_verdict s) (undo_rows s) m;
-      entry_short = λ input before r after e h. rw (lt-ltb (length before) answer_bytes h) at e.by-room;
+      entry_short = λ input before r after e h. rw (lt-ltb (length before) answer_bytes h) at e.by_room;
       entry = λ input before r after e h.
-          let a = rw (le-ltb (length before) answer_bytes h) at e.by-room in at_first input before r after a (recipe_read input) refl a.line.said.by-reading;
-      entry_fits = λ input before r after size e. at_most input before r after size (ltb (length before) answer_bytes) e.by-room;
-      entry_front = λ input before r after long e. record { by_room = whole input before r after long (ltb (length before) answer_bytes) e.by-room };
+          let a = rw (le-ltb (length before) answer_bytes h) at e.by_room in at_first input before r after a (recipe_read input) refl a.line.said.by_reading;
+      entry_fits = λ input before r after size e. at_most input before r after size (ltb (length before) answer_bytes) e.by_room;
+      entry_front = λ input before r after long e. record { by_room = whole input before r after long (ltb (length before) answer_bytes) e.by_room };
     }
   where
     at_most : (input before : List ℕ) (r : ℕ) (after : List ℕ) → length input < 2 ^ 64 → (b : Bool) → Entered b input before r after → r ≤ answer_bytes

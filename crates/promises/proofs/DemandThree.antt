@@ -85,8 +85,8 @@ unchanged {s} {t} {st} n (undo o m k) =
     (i.0 ∙ e, i.1 ∙ by_answer (undo_verdict s) (undone s) o.answer (older st) st m.answer ∙ ap (λ (x : Verdict). accepted x (older st) st) v)
 
 stands : {s t : Lent} (cs : List Call) {su : List ℕ} → Sound s → OwnUndos s cs → Series s [] cs t su → Stands s su t
-stands {s} cs k (inl z) c = let e = session cs c in rw (e.0, e.1) (sessions.demand-three s k z cs).0
-stands {s} cs k (inr o) c = let e = session cs c in rw (e.0, e.1) (sessions.only-strikes s k cs o [] s (sessions.none-stands s k))
+stands {s} cs k (inl z) c = let e = session cs c in rw (e.0, e.1) (sessions.demand_three s k z cs).0
+stands {s} cs k (inr o) c = let e = session cs c in rw (e.0, e.1) (sessions.only_strikes s k cs o [] s (sessions.none_stands s k))
 
 -- as many undos, whatever the rows are called
 undos_named : (n : ℕ) (os : List ℕ) → undos os ≡ undos (then_named n os)
@@ -102,12 +102,12 @@ module _ (s : Lent) (rd rl m n : List ℕ) (c : Corner) (a : Answers rd rl (used
   leaves : {t : Lent} {su : List ℕ} → Series s [] (strikes (then_named (length (used_depths s)) os)) t su → Holds t rd rl
   leaves c' =
       let g = yes_good rd rl (used_depths s) (used_labels s) m c n a in
-      rw (session _ c').0 (leaves_recipe s k rd rl (take (length rd) n) os g.recipe-formed.outline (sym g.recipe-slices) embeds out.once out.all free)
+      rw (session _ c').0 (leaves_recipe s k rd rl (take (length rd) n) os g.recipe_formed.outline (sym g.recipe_slices) embeds out.once out.all free)
 
   restores : {t u : Lent} {su sv : List ℕ} → Series s [] (strikes (then_named (length (used_depths s)) os)) t su → Series t su (undos os) u sv → Restored s u
   restores {t} {u} c' d =
       let g = yes_good rd rl (used_depths s) (used_labels s) m c n a in
-      let b = brings_back s k rd rl (take (length rd) n) os g.recipe-formed.outline (sym g.recipe-slices) embeds out.once out.all free in
+      let b = brings_back s k rd rl (take (length rd) n) os g.recipe_formed.outline (sym g.recipe_slices) embeds out.once out.all free in
       let e : u ≡ run (undos (then_named (length (used_depths s)) os)) (all_struck s os) =
       (session _ d).0 ∙ ap₂ run (undos_named (length (used_depths s)) os) (session _ c').0 in
       rw e (record { depths = b.0; labels = b.1; rows = b.2; entries = b.3 })
@@ -116,7 +116,7 @@ pub demand_three : DemandThree
 demand_three =
     record {
       standing = λ s t cs su k z c.
-          let h = stands cs k z c in (h, (sessions.used-depths s k su t h, sessions.used-labels s k su t h));
+          let h = stands cs k z c in (h, (sessions.used_depths_lem s k su t h, sessions.used_labels_lem s k su t h));
       goes_on = made;
       refused = λ s t cs st su n c. unchanged n c;
       yes_leaves = λ s t rd rl m n c a k os out free su l. leaves s rd rl m n c a k os out free l;
@@ -127,5 +127,5 @@ demand_three =
           let ul = length-take-le s.rows s.labels (omega (arith, k.fits, k.lengths)) in
           no_excluded rd rl (used_depths s) (used_labels s) m c n a
           (left_included rd rl (used_depths s) (used_labels s) su k.rows.outline (ul ∙ sym us) (rw us d.named)
-          (sym (sessions.used-depths s k su t d) ∙ h.0) (sym (sessions.used-labels s k su t d) ∙ h.1));
+          (sym (sessions.used_depths_lem s k su t d) ∙ h.0) (sym (sessions.used_labels_lem s k su t d) ∙ h.1));
     }

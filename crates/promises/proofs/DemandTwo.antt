@@ -43,7 +43,7 @@ module _ (rd rl td tl map : List ℕ) where
   of_ordered n o =
       record {
         count = n;
-        embeds = record { lands = o.lands; fits = o.labels; once = o.once; ancestor = o.ancestors; left = o.left-to-right };
+        embeds = record { lands = o.lands; fits = o.labels; once = o.once; ancestor = o.ancestors; left = o.left_to_right };
       }
 
 module _ (rd rl td tl m n : List ℕ) where
@@ -52,7 +52,7 @@ module _ (rd rl td tl m n : List ℕ) where
 
   module _ (c : Corner) (a : Answers rd rl td tl m (answer.Included c) n) where
     ordered : Ordered rd rl td tl a.3.0
-    ordered = to_ordered rd rl td tl a.3.0 (verdict.yes-embeds rd rl td tl m c n a)
+    ordered = to_ordered rd rl td tl a.3.0 (verdict.yes_embeds rd rl td tl m c n a)
 
     found : Exists rd rl td tl
     found = (a.3.0, a.3.1.count, ordered)
@@ -65,20 +65,20 @@ module _ (rd rl td tl m n : List ℕ) where
 
     of_yes : Decides rd rl td tl m (answer.Included c) n
     of_yes =
-        let g = verdict.yes-good rd rl td tl m c n a in
+        let g = verdict.yes_good rd rl td tl m c n a in
         record {
           decides = λ _ _. inl (c, refl);
           yes_exactly = λ _ _. (λ _. found, λ _. (c, refl));
           no_exactly = λ _ _. (λ y. let e = y.1 in never (cc), λ no. absurd (no found));
           yes_map = λ _. (rw front_map a.3.1, rw front_map ordered, behind_map);
-          one_map = λ _ map k. earliest_one (SameLabel rl tl) rd td g.listing-formed.outline map a.3.0 k a.3.1 ∙ sym front_map;
+          one_map = λ _ map k. earliest_one (SameLabel rl tl) rd td g.listing_formed.outline map a.3.0 k a.3.1 ∙ sym front_map;
           yes_corner = λ d e.
               let q : d ≡ c = cc in
-              rw q ((whole_width (SameLabel rl tl) rd td g.recipe-formed.outline g.recipe-some g.listing-formed.outline c.width c.row a.1).0 a.2);
+              rw q ((whole_width (SameLabel rl tl) rd td g.recipe_formed.outline g.recipe_some g.listing_formed.outline c.width c.row a.1).0 a.2);
           no_corner = λ d e. never (cc);
           one_corner = λ d e. never (cc);
-          judge_yes = λ _ _ s j. (λ _. verdict.judge-yes rd rl td tl m c n a s j, λ _. (c, refl));
-          judge_no = λ _ _ s j. (λ y. let e = y.1 in never (cc), λ e. let f = verdict.judge-yes rd rl td tl m c n a s j in never (cc));
+          judge_yes = λ _ _ s j. (λ _. verdict.judge_yes rd rl td tl m c n a s j, λ _. (c, refl));
+          judge_no = λ _ _ s j. (λ y. let e = y.1 in never (cc), λ e. let f = verdict.judge_yes rd rl td tl m c n a s j in never (cc));
         }
 
   module _ (c : Corner) (a : Answers rd rl td tl m (answer.Absent c) n) where
@@ -86,30 +86,30 @@ module _ (rd rl td tl m n : List ℕ) where
     of_no =
         record {
           decides = λ _ _. inr (c, refl);
-          yes_exactly = λ _ _. (λ y. let e = y.1 in never (cc), λ f. absurd (verdict.no-excluded rd rl td tl m c n a (of_found f)));
-          no_exactly = λ _ _. (λ _ f. verdict.no-excluded rd rl td tl m c n a (of_found f), λ _. (c, refl));
+          yes_exactly = λ _ _. (λ y. let e = y.1 in never (cc), λ f. absurd (verdict.no_excluded rd rl td tl m c n a (of_found f)));
+          no_exactly = λ _ _. (λ _ f. verdict.no_excluded rd rl td tl m c n a (of_found f), λ _. (c, refl));
           yes_map = λ y. let e = y.1 in never (cc);
           one_map = λ y. let e = y.1 in never (cc);
           yes_corner = λ d e. never (cc);
           no_corner = λ d e. let q : d ≡ c = cc in rw q (a.1, a.3);
           one_corner = λ d e i v k. let q : d ≡ c = cc in rw q (corner_one (SameLabel rl tl) rd td i v c.width c.row k a.1);
-          judge_yes = λ _ _ s j. (λ y. let e = y.1 in never (cc), λ e. let f = verdict.judge-no rd rl td tl m c n a s j in never (cc));
-          judge_no = λ _ _ s j. (λ _. verdict.judge-no rd rl td tl m c n a s j, λ _. (c, refl));
+          judge_yes = λ _ _ s j. (λ y. let e = y.1 in never (cc), λ e. let f = verdict.judge_no rd rl td tl m c n a s j in never (cc));
+          judge_no = λ _ _ s j. (λ _. verdict.judge_no rd rl td tl m c n a s j, λ _. (c, refl));
         }
 
   of_refusal : (x : Refusal) → Answers rd rl td tl m (answer.Refused x) n → Decides rd rl td tl m (answer.Refused x) n
   of_refusal x a =
       record {
-        decides = λ g h. absurd (verdict.not-refused rd rl td tl m x n g h a);
-        yes_exactly = λ g h. absurd (verdict.not-refused rd rl td tl m x n g h a);
-        no_exactly = λ g h. absurd (verdict.not-refused rd rl td tl m x n g h a);
+        decides = λ g h. absurd (verdict.not_refused rd rl td tl m x n g h a);
+        yes_exactly = λ g h. absurd (verdict.not_refused rd rl td tl m x n g h a);
+        no_exactly = λ g h. absurd (verdict.not_refused rd rl td tl m x n g h a);
         yes_map = λ y. let e = y.1 in never (cc);
         one_map = λ y. let e = y.1 in never (cc);
         yes_corner = λ d e. never (cc);
         no_corner = λ d e. never (cc);
         one_corner = λ d e. never (cc);
-        judge_yes = λ g h s j. absurd (verdict.not-refused rd rl td tl m x n g h a);
-        judge_no = λ g h s j. absurd (verdict.not-refused rd rl td tl m x n g h a);
+        judge_yes = λ g h s j. absurd (verdict.not_refused rd rl td tl m x n g h a);
+        judge_no = λ g h s j. absurd (verdict.not_refused rd rl td tl m x n g h a);
       }
 
   answered : (r : Answer) → Answers rd rl td tl m r n → Decides rd rl td tl m r n
@@ -124,25 +124,25 @@ gives_back : (bytes : List ℕ) (start : ℕ) (limit : Limit) (depths labels old
 gives_back bytes start limit depths labels old_depths old_labels size r new_depths new_labels g k =
     record {
       answer = k.answer ∙ g.answer;
-      depths_back = k.depths-after ∙ rw k.answer g.depths-after;
-      labels_back = k.labels-after ∙ rw k.answer g.labels-after;
+      depths_back = k.depths_after ∙ rw k.answer g.depths_after;
+      labels_back = k.labels_after ∙ rw k.answer g.labels_after;
     }
 
 module _ {bytes : List ℕ} {start n next : ℕ} {depths labels : List ℕ} (x : ReadAs bytes start n next depths labels) where
   place_after : next ≡ start + (20 + 6 * n)
-  place_after = (accepted bytes start x.limit x.old-depths x.old-labels n next (sym x.reads.answer)).claimed.place
+  place_after = (accepted bytes start x.limit x.old_depths x.old_labels n next (sym x.reads.answer)).claimed.place
 
   the_parcel : stretch bytes start next ≡ parcel_of depths labels
   the_parcel =
-      let d = x.depths-read ∙ ap (take n) x.reads.depths-after ∙ take_at (depths_in bytes start n) (drop n x.old-depths) n (numbers_length 2 n (drop (depths_at start n) bytes)) in
-      let l = x.labels-read ∙ ap (take n) x.reads.labels-after ∙ take_at (labels_in bytes start n) (drop n x.old-labels) n (numbers_length 4 n (drop (labels_at start) bytes)) in
+      let d = x.depths_read ∙ ap (take n) x.reads.depths_after ∙ take_at (depths_in bytes start n) (drop n x.old_depths) n (numbers_length 2 n (drop (depths_at start n) bytes)) in
+      let l = x.labels_read ∙ ap (take n) x.reads.labels_after ∙ take_at (labels_in bytes start n) (drop n x.old_labels) n (numbers_length 4 n (drop (labels_at start) bytes)) in
       stretch_parcel
       (record {
         bytes = bytes;
         start = start;
         limit = x.limit;
-        depth_slots = x.old-depths;
-        label_slots = x.old-labels;
+        depth_slots = x.old_depths;
+        label_slots = x.old_labels;
         count = n;
         next = next;
         input = x.input;

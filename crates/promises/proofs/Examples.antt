@@ -40,7 +40,7 @@ Comes (edits s undo_last a t) = (undo_answer s ≡ a) × (after_undo s ≡ t)
 says : (x : Example) → Comes x → Says x
 says (asks rd rl td tl a images line) c =
     let n = over images (zeros recipe_rows) in
-    let h : length rd ≤ length (zeros recipe_rows) = omega (arith, zeros_length recipe_rows, ((tables_fine rd rl td tl).0 c.0.0).recipe-few) in
+    let h : length rd ≤ length (zeros recipe_rows) = omega (arith, zeros_length recipe_rows, ((tables_fine rd rl td tl).0 c.0.0).recipe_few) in
     let k = (answer_is rd rl td tl a images c.0 (zeros recipe_rows) h a n).1 (refl, refl) in (
       answer_is rd rl td tl a images c.0,
       entry_is (input rd rl td tl) (bytes line)

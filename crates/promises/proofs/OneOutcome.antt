@@ -65,7 +65,7 @@ one_outcome =
         takes_all = λ κs a. tt;
         says = λ κs a x end. (
           λ p. record { answer = p.0; depths_after = p.1.0; labels_after = p.1.1 },
-          λ p. (p.answer, (p.depths-after, p.labels-after)),
+          λ p. (p.answer, (p.depths_after, p.labels_after)),
         );
         one_outcome = λ κs a x y end other p q.
             let e = one_read κs a x y end other p q in (e.0, ap₂ (λ (d l : List ℕ). d ∷ l ∷ []) e.1 e.2);

@@ -1,0 +1,71 @@
+-- `journal::judge::lent_verdict` meets its contract: each return comes after the tests before it. Assumes nothing.
+use mathlib.Core.Path.{◌≡◌, ◌∙◌, sym, ap}
+use lib.Seq.{length-take-le}
+use borrow.Author.Tests.{eq-eqb, ne_eqb, le-leb, lt-leb}
+use Rattle.rows.specs.declared.RowCheck.{RowCheck}
+use Rattle.journal.specs.Refusals.{lent_verdict, journal_verdict, unless_bad}
+use Rattle.journal.proofs.Verdicts.{past_slices}
+use Rattle.journal.proofs.judge.lent_verdict.Goals as goal
+
+pub returns-then-depths-labels : goal.returns-then-depths-labels
+unfolding lent_verdict
+returns-then-depths-labels c = simp (ne_eqb _ _ c.if-depths-labels.true)
+
+pub returns-then-depths-gt-LISTING_ROWS : goal.returns-then-depths-gt-LISTING_ROWS
+unfolding lent_verdict
+returns-then-depths-gt-LISTING_ROWS c = simp (eq-eqb _ _ c.if-depths-labels.false, lt-leb _ _ c.if-depths-gt-LISTING_ROWS.true)
+
+pub returns-then-depths-count : goal.returns-then-depths-count
+unfolding lent_verdict
+returns-then-depths-count c = simp (eq-eqb _ _ c.if-depths-labels.false, le-leb _ _ c.if-depths-gt-LISTING_ROWS.false, lt-leb _ _ c.if-depths-count.true)
+
+pub slice_bounds-first_bad-end : goal.slice_bounds-first_bad-end
+slice_bounds-first_bad-end c = sym (length-take-le _ _ c.if-depths-count.false)
+
+pub returns-in-BadStep : goal.returns-in-BadStep
+returns-in-BadStep c = sym (past_slices (given c) c.if-depths-labels.false c.if-depths-gt-LISTING_ROWS.false
+    c.if-depths-count.false ∙ ap (λ (k : RowCheck). unless_bad k (journal_verdict (given c)))
+    (sym c.first_bad.ensures ∙ c.row-1.given.1))
+
+pub returns-in-TooDeep : goal.returns-in-TooDeep
+returns-in-TooDeep c = sym (past_slices (given c) c.if-depths-labels.false c.if-depths-gt-LISTING_ROWS.false
+    c.if-depths-count.false ∙ ap (λ (k : RowCheck). unless_bad k (journal_verdict (given c)))
+    (sym c.first_bad.ensures ∙ c.row-in-TooDeep-1.given.1))
+
+pub returns-then-journal-ne0 : goal.returns-then-journal-ne0
+unfolding journal_verdict
+returns-then-journal-ne0 c = 
+    let fine : lent_verdict (given c) ≡ journal_verdict
+    (given c) = past_slices (given c) c.if-depths-labels.false c.if-depths-gt-LISTING_ROWS.false
+    c.if-depths-count.false ∙ ap (λ (k : RowCheck). unless_bad k (journal_verdict (given c)))
+    (sym c.first_bad.ensures ∙ c.enum_told-1.given.1) in
+    sym (fine ∙ simp (ne_eqb _ _ c.if-journal-ne0.true))
+
+pub returns-then-journal-gt-JOURNAL_WORDS : goal.returns-then-journal-gt-JOURNAL_WORDS
+unfolding journal_verdict
+returns-then-journal-gt-JOURNAL_WORDS c = 
+    let fine : lent_verdict (given c) ≡ journal_verdict
+    (given c) = past_slices (given c) c.if-depths-labels.false c.if-depths-gt-LISTING_ROWS.false
+    c.if-depths-count.false ∙ ap (λ (k : RowCheck). unless_bad k (journal_verdict (given c)))
+    (sym c.first_bad.ensures ∙ c.enum_told-1.given.1) in
+    sym (fine ∙ simp (eq-eqb _ _ c.if-journal-ne0.false, lt-leb _ _ c.if-journal-gt-JOURNAL_WORDS.true))
+
+pub returns-then-journal-entries : goal.returns-then-journal-entries
+unfolding journal_verdict
+returns-then-journal-entries c = 
+    let fine : lent_verdict (given c) ≡ journal_verdict
+    (given c) = past_slices (given c) c.if-depths-labels.false c.if-depths-gt-LISTING_ROWS.false
+    c.if-depths-count.false ∙ ap (λ (k : RowCheck). unless_bad k (journal_verdict (given c)))
+    (sym c.first_bad.ensures ∙ c.enum_told-1.given.1) in
+    sym (fine ∙ simp
+    (eq-eqb _ _ c.if-journal-ne0.false, le-leb _ _ c.if-journal-gt-JOURNAL_WORDS.false, lt-leb _ _ c.if-journal-entries.true))
+
+pub returns : goal.returns
+unfolding journal_verdict
+returns c = 
+    let fine : lent_verdict (given c) ≡ journal_verdict
+    (given c) = past_slices (given c) c.if-depths-labels.false c.if-depths-gt-LISTING_ROWS.false
+    c.if-depths-count.false ∙ ap (λ (k : RowCheck). unless_bad k (journal_verdict (given c)))
+    (sym c.first_bad.ensures ∙ c.enum_told-1.given.1) in
+    sym (fine ∙ simp
+    (eq-eqb _ _ c.if-journal-ne0.false, le-leb _ _ c.if-journal-gt-JOURNAL_WORDS.false, le-leb _ _ c.if-journal-entries.false))

@@ -1,0 +1,24 @@
+-- `matching::answering::include` meets its contract: the answer is document 01's, and the map slice is as it says. Assumes nothing.
+use mathlib.Core.Path.{◌≡◌, refl, sym, ◌∙◌}
+use native.Mathlib.Omega.{arith}
+use Rattle.matching.specs.declared.tables.Tables.TheVariants.{Fine}
+use Rattle.matching.specs.Refusals.{tables_check}
+use Rattle.matching.proofs.Refusals.{tables_fine}
+use Rattle.matching.proofs.AnswerLaws.{check_tables, check_short}
+use Rattle.matching.proofs.answering.include.Goals as goal
+
+pub returns-then-map-recipe_depths : goal.returns-then-map-recipe_depths
+returns-then-map-recipe_depths c = 
+    let fine : let a = (entry c).args in tables_check a.recipe-depths.now a.recipe-labels.now a.listing-depths.now a.listing-labels.now ≡ Fine = sym c.check_tables-checked.ensures ∙ c.enum_told-1.given.1 in
+    let a = (entry c).args in
+    (check_short a.recipe-depths.now a.recipe-labels.now a.listing-depths.now a.listing-labels.now a.map-1.now fine (omega (arith, c.if-map-recipe_depths.true)), refl)
+
+pub answer_good-requires : goal.answer_good-requires
+answer_good-requires c = 
+    let fine : let a = (entry c).args in tables_check a.recipe-depths.now a.recipe-labels.now a.listing-depths.now a.listing-labels.now ≡ Fine = sym c.check_tables-checked.ensures ∙ c.enum_told-1.given.1 in
+    let a = (entry c).args in
+    ((tables_fine a.recipe-depths.now a.recipe-labels.now a.listing-depths.now a.listing-labels.now).0 fine, omega (arith, c.if-map-recipe_depths.false))
+
+pub returns-in-Refused : goal.returns-in-Refused
+returns-in-Refused c = let e = sym c.check_tables-checked.ensures ∙ c.checked-1.given.1 in
+    (check_tables c.args.recipe_depths.now c.args.recipe_labels.now c.args.listing_depths.now c.args.listing_labels.now c.args.map.now _ e, refl)

@@ -1,0 +1,16 @@
+use Rattle.std.proofs.Common.{◌≡◌, ℕ, ◌+◌, ◌-◌, ◌++◌, drop, refl, ap, ◌∙◌, arith, length-set}
+use Rattle.parcels.specs.Numbers.{numbers}
+use Rattle.parcels.proofs.Runs.{fill_none, fill_more}
+use Rattle.parcels.proofs.fields.fill_labels.Goals as goal
+
+pub loop-i-init : goal.loop-i-init
+loop-i-init c = (omega arith, omega arith, omega arith, refl, fill_none 4 c.args.bytes.now c.args.at c.args.labels.now)
+
+pub loop-i-preserved : goal.loop-i-preserved
+loop-i-preserved c = let filled = fill_more 4 c.args.bytes.now c.args.at c.args.labels.now c.loop-i.labels c.loop-i.i c.number_u32.result (omega arith)
+    c.loop-i.invariant.4 c.number_u32.ensures in
+    (omega arith, omega arith, omega arith, simp length-set (omega arith), filled)
+
+pub returns : goal.returns
+returns c = let e : c.loop-i.i ≡ c.args.n = omega arith in
+    c.loop-i.invariant.4 ∙ ap (λ (k : ℕ). numbers 4 k (drop c.args.at c.args.bytes.now) ++ drop k c.args.labels.now) e

@@ -1,0 +1,16 @@
+-- `write` meets its contract: each way out by the law of its tests. Assumes nothing.
+use Rattle.std.proofs.Common.{arith}
+use Rattle.parcels.proofs.Writing.{slices_differ, over_limit, bytes_short, whole_parcel}
+use Rattle.parcels.proofs.write.Goals as goal
+
+pub returns-then-depths-n : goal.returns-then-depths-n
+returns-then-depths-n c = slices_differ c.args.depths.now c.args.labels.now c.args.bytes.now c.if-depths-n.true
+
+pub returns-then-n-gt-LISTING_ROWS : goal.returns-then-n-gt-LISTING_ROWS
+returns-then-n-gt-LISTING_ROWS c = over_limit c.args.depths.now c.args.labels.now c.args.bytes.now (omega arith) (omega arith)
+
+pub returns-then-bytes-size : goal.returns-then-bytes-size
+returns-then-bytes-size c = bytes_short c.args.depths.now c.args.labels.now c.args.bytes.now (omega arith) (omega arith) (omega arith)
+
+pub returns : goal.returns
+returns c = whole_parcel c.args.depths.now c.args.labels.now c.args.bytes.now (omega arith) (omega arith) (omega arith) _ c.put_parcel.ensures
