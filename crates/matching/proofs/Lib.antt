@@ -38,7 +38,6 @@ pub mod Placing
 pub mod Refusals
 pub mod Scan
 pub mod Search
-pub mod Seeking
 pub mod Siblings
 pub mod Sides
 pub mod Standing
@@ -48,6 +47,5 @@ pub mod TreePass
 pub mod TreePlace
 pub mod TreeRow
 pub mod Verdict
-pub mod Walks
 pub mod Width
 pub mod Written

@@ -18,8 +18,8 @@ fn search(
     recipe_after: usize,
     recipe_last: usize,
 ) -> bool
-    requires searchable { Searchable recipe_depths.now recipe_labels.now recipe_after recipe_last }
-    requires searchable_2 { Searchable listing_depths.now listing_labels.now listing_after listing_last }
+    requires recipe { Searchable recipe_depths.now recipe_labels.now recipe_after recipe_last }
+    requires listing { Searchable listing_depths.now listing_labels.now listing_after listing_last }
     ensures { Tells recipe_depths.now recipe_labels.now recipe_after recipe_last
         listing_depths.now listing_labels.now listing_after listing_last result }
 {

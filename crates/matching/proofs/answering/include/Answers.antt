@@ -20,5 +20,6 @@ answer_good-requires c =
     ((tables_fine a.recipe-depths.now a.recipe-labels.now a.listing-depths.now a.listing-labels.now).0 fine, omega (arith, c.if-map-recipe_depths.false))
 
 pub returns-in-Refused : goal.returns-in-Refused
-returns-in-Refused c = let e = sym c.check_tables-checked.ensures ∙ c.checked-1.given.1 in
-    (check_tables c.args.recipe_depths.now c.args.recipe_labels.now c.args.listing_depths.now c.args.listing_labels.now c.args.map.now _ e, refl)
+returns-in-Refused c = let a = c.args in
+    let e = sym c.check_tables-checked.ensures ∙ c.checked-1.given.1 in
+    (check_tables a.recipe_depths.now a.recipe_labels.now a.listing_depths.now a.listing_labels.now a.map.now _ e, refl)

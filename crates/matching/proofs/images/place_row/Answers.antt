@@ -6,22 +6,25 @@ use Rattle.matching.proofs.PlaceRows.{climbs_shape}
 use Rattle.matching.proofs.images.place_row.Goals as goal
 
 pub kin_of-kin-requires : goal.kin_of-kin-requires
-kin_of-kin-requires c = let k = c.requires.ready.0 in
+kin_of-kin-requires c = let a = c.args in
+    let k = c.requires.ready.0 in
     let e = c.requires.ready.1 in
     let r = c.requires.ready.2 in
     let g = c.requires.included in
-    (r, climbs_shape c.args.recipe.now c.args.shape.now c.args.v r.1 (rw e at k.shape))
+    (r, climbs_shape a.recipe.now a.shape.now a.v r.1 (rw e at k.shape))
 
 pub find_image-image-requires : goal.find_image-image-requires
-find_image-image-requires c = let k = c.requires.ready.0 in
+find_image-image-requires c = let a = c.args in
+    let k = c.requires.ready.0 in
     let e = c.requires.ready.1 in
     let r = c.requires.ready.2 in
     let g = c.requires.included in
     let kin = c.kin_of-kin.ensures in
-    record { ready = (k, e, r); stage = c.requires.stage; included = (g.0, c.last_barred-from.ensures ∙ ap₂ (barred c.args.depths.now c.args.map.now) kin.0 kin.1, g.1) }
+    record { ready = (k, e, r); stage = c.requires.stage; included = (g.0, c.last_barred-from.ensures ∙ ap₂ (barred a.depths.now a.map.now) kin.0 kin.1, g.1) }
 
 pub overflow_cast-map : goal.overflow_cast-map
-overflow_cast-map c = let k = c.requires.ready.0 in
+overflow_cast-map c = let a = c.args in
+    let k = c.requires.ready.0 in
     let e = c.requires.ready.1 in
     let r = c.requires.ready.2 in
     let g = c.requires.included in
@@ -31,7 +34,8 @@ pub overflow_sub-map : goal.overflow_sub-map
 overflow_sub-map c = c.requires.ready.2.0
 
 pub bounds-map-v : goal.bounds-map-v
-bounds-map-v c = let k = c.requires.ready.0 in
+bounds-map-v c = let a = c.args in
+    let k = c.requires.ready.0 in
     let e = c.requires.ready.1 in
     let r = c.requires.ready.2 in
     let g = c.requires.included in

@@ -12,33 +12,34 @@ pub clear_marks-requires : goal.clear_marks-requires
 clear_marks-requires c = c.requires.in_bounds.1
 
 pub place_known-n-requires : goal.place_known-n-requires
-place_known-n-requires c = let k = c.requires.ready.0 in
+place_known-n-requires c = let a = c.args in
+    let k = c.requires.ready.0 in
     let e = c.requires.ready.1 in
     let g = c.requires.in_bounds in
     let words = c.requires.asked_len in
-    let cleared = c.clear_marks in
-    let known = words.3 in record { shape = (rw e at k.shape, rw e at k.outline, λ o. (rw e at (known.path o)).inner 0 (omega arith)); known_le_listing_rows = (low c.args.known _ (λ o. omega (arith, (known.first o).high, k.few)), g.0, omega (arith, g, cleared.ensures.size)) }
+    let known = words.3 in record { shape = (rw e at k.shape, rw e at k.outline, λ o. (rw e at (known.path o)).inner 0 (omega arith)); known_le_listing_rows = (low a.known _ (λ o. omega (arith, (known.first o).high, k.few)), g.0, omega (arith, g, c.clear_marks.ensures.size)) }
 
 pub loop-n-init : goal.loop-n-init
 loop-n-init c = 
     let begun : let start = c in let a = start.args in
-    Stage (SameLabel a.labels.now a.names.now) a.recipe.now a.depths.now a.map-1.now a.asked.now a.room.now a.log.now c.place_known-n.new.1.1.1.0 c.place_known-n.result = let k = c.requires.ready.0 in
+    Stage (SameLabel a.labels.now a.names.now) a.recipe.now a.depths.now a.map.now a.asked.now a.room.now a.log.now c.place_known-n.new.map c.place_known-n.result = let a = c.args in
+    let k = c.requires.ready.0 in
     let e = c.requires.ready.1 in
     let g = c.requires.in_bounds in
     let words = c.requires.asked_len in
-    let cleared = c.clear_marks in
-    stage_begun _ c.args.recipe.now c.args.depths.now (rw e at k.outline) k.listing.outline c.requires.included c.args.map-1.now cleared.new.1.0 cleared.ensures g.0 g.1 c.args.asked.now c.args.room.now c.args.log.now (words.0, words.1, words.2) c.args.known _ _ c.place_known-n.ensures (λ o. rw e at (words.3.first o)) (λ o. rw e at (words.3.path o)) (λ o. rw e at (words.3.told o)) in
+    stage_begun _ a.recipe.now a.depths.now (rw e at k.outline) k.listing.outline c.requires.included a.map.now c.clear_marks.new.1.0 c.clear_marks.ensures g.0 g.1 a.asked.now a.room.now a.log.now (words.0, words.1, words.2) a.known _ _ c.place_known-n.ensures (λ o. rw e at (words.3.first o)) (λ o. rw e at (words.3.path o)) (λ o. rw e at (words.3.told o)) in
     stage_here _ _ _ _ _ _ _ _ _ begun
 
 pub overflow_add-n : goal.overflow_add-n
 overflow_add-n c = 
     let begun : let start = c in let a = start.args in
-    Stage (SameLabel a.labels.now a.names.now) a.recipe.now a.depths.now a.map-1.now a.asked.now a.room.now a.log.now c.place_known-n.new.1.1.1.0 c.place_known-n.result = let k = c.requires.ready.0 in
+    Stage (SameLabel a.labels.now a.names.now) a.recipe.now a.depths.now a.map.now a.asked.now a.room.now a.log.now c.place_known-n.new.map c.place_known-n.result = let a = c.args in
+    let k = c.requires.ready.0 in
     let e = c.requires.ready.1 in
     let g = c.requires.in_bounds in
     let words = c.requires.asked_len in
-    let cleared = c.clear_marks in
-    stage_begun _ c.args.recipe.now c.args.depths.now (rw e at k.outline) k.listing.outline c.requires.included c.args.map-1.now cleared.new.1.0 cleared.ensures g.0 g.1 c.args.asked.now c.args.room.now c.args.log.now (words.0, words.1, words.2) c.args.known _ _ c.place_known-n.ensures (λ o. rw e at (words.3.first o)) (λ o. rw e at (words.3.path o)) (λ o. rw e at (words.3.told o)) in
+    stage_begun _ a.recipe.now a.depths.now (rw e at k.outline) k.listing.outline c.requires.included a.map.now c.clear_marks.new.1.0 c.clear_marks.ensures g.0 g.1 a.asked.now a.room.now a.log.now (words.0, words.1, words.2) a.known _ _ c.place_known-n.ensures (λ o. rw e at (words.3.first o)) (λ o. rw e at (words.3.path o)) (λ o. rw e at (words.3.told o)) in
+    let a = c.args in
     let k = c.requires.ready.0 in
     let e = c.requires.ready.1 in
     let s = c.loop-n.invariant in
@@ -48,12 +49,13 @@ overflow_add-n c =
 pub overflow_cast-n : goal.overflow_cast-n
 overflow_cast-n c = 
     let begun : let start = c in let a = start.args in
-    Stage (SameLabel a.labels.now a.names.now) a.recipe.now a.depths.now a.map-1.now a.asked.now a.room.now a.log.now c.place_known-n.new.1.1.1.0 c.place_known-n.result = let k = c.requires.ready.0 in
+    Stage (SameLabel a.labels.now a.names.now) a.recipe.now a.depths.now a.map.now a.asked.now a.room.now a.log.now c.place_known-n.new.map c.place_known-n.result = let a = c.args in
+    let k = c.requires.ready.0 in
     let e = c.requires.ready.1 in
     let g = c.requires.in_bounds in
     let words = c.requires.asked_len in
-    let cleared = c.clear_marks in
-    stage_begun _ c.args.recipe.now c.args.depths.now (rw e at k.outline) k.listing.outline c.requires.included c.args.map-1.now cleared.new.1.0 cleared.ensures g.0 g.1 c.args.asked.now c.args.room.now c.args.log.now (words.0, words.1, words.2) c.args.known _ _ c.place_known-n.ensures (λ o. rw e at (words.3.first o)) (λ o. rw e at (words.3.path o)) (λ o. rw e at (words.3.told o)) in
+    stage_begun _ a.recipe.now a.depths.now (rw e at k.outline) k.listing.outline c.requires.included a.map.now c.clear_marks.new.1.0 c.clear_marks.ensures g.0 g.1 a.asked.now a.room.now a.log.now (words.0, words.1, words.2) a.known _ _ c.place_known-n.ensures (λ o. rw e at (words.3.first o)) (λ o. rw e at (words.3.path o)) (λ o. rw e at (words.3.told o)) in
+    let a = c.args in
     let k = c.requires.ready.0 in
     let e = c.requires.ready.1 in
     let s = c.loop-n.invariant in
@@ -63,12 +65,13 @@ overflow_cast-n c =
 pub place_row-requires : goal.place_row-requires
 place_row-requires c = 
     let begun : let start = c in let a = start.args in
-    Stage (SameLabel a.labels.now a.names.now) a.recipe.now a.depths.now a.map-1.now a.asked.now a.room.now a.log.now c.place_known-n.new.1.1.1.0 c.place_known-n.result = let k = c.requires.ready.0 in
+    Stage (SameLabel a.labels.now a.names.now) a.recipe.now a.depths.now a.map.now a.asked.now a.room.now a.log.now c.place_known-n.new.map c.place_known-n.result = let a = c.args in
+    let k = c.requires.ready.0 in
     let e = c.requires.ready.1 in
     let g = c.requires.in_bounds in
     let words = c.requires.asked_len in
-    let cleared = c.clear_marks in
-    stage_begun _ c.args.recipe.now c.args.depths.now (rw e at k.outline) k.listing.outline c.requires.included c.args.map-1.now cleared.new.1.0 cleared.ensures g.0 g.1 c.args.asked.now c.args.room.now c.args.log.now (words.0, words.1, words.2) c.args.known _ _ c.place_known-n.ensures (λ o. rw e at (words.3.first o)) (λ o. rw e at (words.3.path o)) (λ o. rw e at (words.3.told o)) in
+    stage_begun _ a.recipe.now a.depths.now (rw e at k.outline) k.listing.outline c.requires.included a.map.now c.clear_marks.new.1.0 c.clear_marks.ensures g.0 g.1 a.asked.now a.room.now a.log.now (words.0, words.1, words.2) a.known _ _ c.place_known-n.ensures (λ o. rw e at (words.3.first o)) (λ o. rw e at (words.3.path o)) (λ o. rw e at (words.3.told o)) in
+    let a = c.args in
     let k = c.requires.ready.0 in
     let e = c.requires.ready.1 in
     let s = c.loop-n.invariant in
@@ -80,12 +83,13 @@ place_row-requires c =
 pub loop-n-smaller : goal.loop-n-smaller
 loop-n-smaller c = 
     let begun : let start = c in let a = start.args in
-    Stage (SameLabel a.labels.now a.names.now) a.recipe.now a.depths.now a.map-1.now a.asked.now a.room.now a.log.now c.place_known-n.new.1.1.1.0 c.place_known-n.result = let k = c.requires.ready.0 in
+    Stage (SameLabel a.labels.now a.names.now) a.recipe.now a.depths.now a.map.now a.asked.now a.room.now a.log.now c.place_known-n.new.map c.place_known-n.result = let a = c.args in
+    let k = c.requires.ready.0 in
     let e = c.requires.ready.1 in
     let g = c.requires.in_bounds in
     let words = c.requires.asked_len in
-    let cleared = c.clear_marks in
-    stage_begun _ c.args.recipe.now c.args.depths.now (rw e at k.outline) k.listing.outline c.requires.included c.args.map-1.now cleared.new.1.0 cleared.ensures g.0 g.1 c.args.asked.now c.args.room.now c.args.log.now (words.0, words.1, words.2) c.args.known _ _ c.place_known-n.ensures (λ o. rw e at (words.3.first o)) (λ o. rw e at (words.3.path o)) (λ o. rw e at (words.3.told o)) in
+    stage_begun _ a.recipe.now a.depths.now (rw e at k.outline) k.listing.outline c.requires.included a.map.now c.clear_marks.new.1.0 c.clear_marks.ensures g.0 g.1 a.asked.now a.room.now a.log.now (words.0, words.1, words.2) a.known _ _ c.place_known-n.ensures (λ o. rw e at (words.3.first o)) (λ o. rw e at (words.3.path o)) (λ o. rw e at (words.3.told o)) in
+    let a = c.args in
     let k = c.requires.ready.0 in
     let e = c.requires.ready.1 in
     let s = c.loop-n.invariant in
@@ -95,45 +99,32 @@ loop-n-smaller c =
 pub loop-n-preserved : goal.loop-n-preserved
 loop-n-preserved c = 
     let begun : let start = c in let a = start.args in
-    Stage (SameLabel a.labels.now a.names.now) a.recipe.now a.depths.now a.map-1.now a.asked.now a.room.now a.log.now c.place_known-n.new.1.1.1.0 c.place_known-n.result = let k = c.requires.ready.0 in
+    Stage (SameLabel a.labels.now a.names.now) a.recipe.now a.depths.now a.map.now a.asked.now a.room.now a.log.now c.place_known-n.new.map c.place_known-n.result = let a = c.args in
+    let k = c.requires.ready.0 in
     let e = c.requires.ready.1 in
     let g = c.requires.in_bounds in
     let words = c.requires.asked_len in
-    let cleared = c.clear_marks in
-    stage_begun _ c.args.recipe.now c.args.depths.now (rw e at k.outline) k.listing.outline c.requires.included c.args.map-1.now cleared.new.1.0 cleared.ensures g.0 g.1 c.args.asked.now c.args.room.now c.args.log.now (words.0, words.1, words.2) c.args.known _ _ c.place_known-n.ensures (λ o. rw e at (words.3.first o)) (λ o. rw e at (words.3.path o)) (λ o. rw e at (words.3.told o)) in
+    stage_begun _ a.recipe.now a.depths.now (rw e at k.outline) k.listing.outline c.requires.included a.map.now c.clear_marks.new.1.0 c.clear_marks.ensures g.0 g.1 a.asked.now a.room.now a.log.now (words.0, words.1, words.2) a.known _ _ c.place_known-n.ensures (λ o. rw e at (words.3.first o)) (λ o. rw e at (words.3.path o)) (λ o. rw e at (words.3.told o)) in
+    let a = c.args in
     let k = c.requires.ready.0 in
     let e = c.requires.ready.1 in
     let s = c.loop-n.invariant in
     let b = begun in
     stage_back _ _ _ _ _ _ _ _ _ _ s.size s.rest c.place_row.ensures
 
-pub shape_of-map : goal.shape_of-map
-shape_of-map c = 
-    let begun : let start = c in let a = start.args in
-    Stage (SameLabel a.labels.now a.names.now) a.recipe.now a.depths.now a.map-1.now a.asked.now a.room.now a.log.now c.place_known-n.new.1.1.1.0 c.place_known-n.result = let k = c.requires.ready.0 in
-    let e = c.requires.ready.1 in
-    let g = c.requires.in_bounds in
-    let words = c.requires.asked_len in
-    let cleared = c.clear_marks in
-    stage_begun _ c.args.recipe.now c.args.depths.now (rw e at k.outline) k.listing.outline c.requires.included c.args.map-1.now cleared.new.1.0 cleared.ensures g.0 g.1 c.args.asked.now c.args.room.now c.args.log.now (words.0, words.1, words.2) c.args.known _ _ c.place_known-n.ensures (λ o. rw e at (words.3.first o)) (λ o. rw e at (words.3.path o)) (λ o. rw e at (words.3.told o)) in
-    let k = c.requires.ready.0 in
-    let e = c.requires.ready.1 in
-    let s = c.loop-n.invariant in
-    let b = begun in
-    s.size ∙ b.size
-
 pub returns : goal.returns
 returns c = 
     let begun : let start = c in let a = start.args in
-    Stage (SameLabel a.labels.now a.names.now) a.recipe.now a.depths.now a.map-1.now a.asked.now a.room.now a.log.now c.place_known-n.new.1.1.1.0 c.place_known-n.result = let k = c.requires.ready.0 in
+    Stage (SameLabel a.labels.now a.names.now) a.recipe.now a.depths.now a.map.now a.asked.now a.room.now a.log.now c.place_known-n.new.map c.place_known-n.result = let a = c.args in
+    let k = c.requires.ready.0 in
     let e = c.requires.ready.1 in
     let g = c.requires.in_bounds in
     let words = c.requires.asked_len in
-    let cleared = c.clear_marks in
-    stage_begun _ c.args.recipe.now c.args.depths.now (rw e at k.outline) k.listing.outline c.requires.included c.args.map-1.now cleared.new.1.0 cleared.ensures g.0 g.1 c.args.asked.now c.args.room.now c.args.log.now (words.0, words.1, words.2) c.args.known _ _ c.place_known-n.ensures (λ o. rw e at (words.3.first o)) (λ o. rw e at (words.3.path o)) (λ o. rw e at (words.3.told o)) in
+    stage_begun _ a.recipe.now a.depths.now (rw e at k.outline) k.listing.outline c.requires.included a.map.now c.clear_marks.new.1.0 c.clear_marks.ensures g.0 g.1 a.asked.now a.room.now a.log.now (words.0, words.1, words.2) a.known _ _ c.place_known-n.ensures (λ o. rw e at (words.3.first o)) (λ o. rw e at (words.3.path o)) (λ o. rw e at (words.3.told o)) in
+    let a = c.args in
     let k = c.requires.ready.0 in
     let e = c.requires.ready.1 in
     let s = c.loop-n.invariant in
     let b = begun in
-    let n : c.loop-n.n ≡ length c.args.recipe.now = omega (arith, s.few, c.loop-n-test.false) in
-    record { earliest_close = placed_all _ c.args.recipe.now c.args.depths.now c.loop-n.map (omega (arith, s.size, b.size, c.requires.in_bounds.1)) (rw n at s.placed); map_unchanged = s.rest ∙ b.rest }
+    let n : c.loop-n.n ≡ length a.recipe.now = omega (arith, s.few, c.loop-n-test.false) in
+    record { earliest_close = placed_all _ a.recipe.now a.depths.now c.loop-n.map (omega (arith, s.size, b.size, c.requires.in_bounds.1)) (rw n at s.placed); map_unchanged = s.rest ∙ b.rest }

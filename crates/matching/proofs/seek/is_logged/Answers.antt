@@ -5,8 +5,7 @@ use Rattle.matching.proofs.seek.is_logged.Goals as goal
 
 pub returns-then-name-names : goal.returns-then-name-names
 returns-then-name-names c = let m = c.args.mark in
-    let g = c.read_Log in
-    (λ t. (c.if-name-names.true, rw g.ensures at (leb-true g.result m t)), λ h. le-leb g.result m (rw g.ensures h.1))
+    (λ t. (c.if-name-names.true, rw c.read_log.ensures at (leb-true c.read_log.result m t)), λ h. le-leb c.read_log.result m (rw c.read_log.ensures h.1))
 
 pub returns : goal.returns
 returns c = (λ e. absurd (false≢true e), λ h. absurd (c.if-name-names.false h.0))

@@ -5,6 +5,7 @@ use native.Mathlib.Numerals.{add-one}
 use Rattle.rows.specs.Rows.{at, depth}
 use Rattle.matching.proofs.Scan.{scanned_none, scanned_hit, scanned_miss, scanned_end}
 use Rattle.matching.proofs.seek.seek_label.Goals as goal
+use Rattle.matching.proofs.seek.seek_label.Goals.{then-name-names, else-name-names}
 
 pub loop-at-init : goal.loop-at-init
 loop-at-init c = (omega arith, omega (arith, c.requires.by_index.1, c.requires.by_index.2), scanned_none _ c.requires.well_formed.0.outline _ _)
@@ -18,18 +19,17 @@ pub overflow_add-stop : goal.overflow_add-stop
 overflow_add-stop c = omega (arith, c.requires.well_formed.0.shallow (suc c.loop-at.at) (omega arith))
 
 pub loop-at-preserved : goal.loop-at-preserved
-loop-at-preserved c = let o = c.loop-at in
-    let k = c.requires.well_formed.0.outline in
+loop-at-preserved c = let k = c.requires.well_formed.0.outline in
     let l = c.loop-at-test.true in
     let d = c.if-depths-at.false in
-    let n = add-one o.at in
-    let s = add-one (depth c.args.depths.now (suc o.at)) in (
+    let n = add-one c.loop-at.at in
+    let s = add-one (depth c.args.depths.now (suc c.loop-at.at)) in (
       omega arith,
       omega arith,
-      ⊎_elim
-          (λ w. rw (w.2, w.3, n, s) (scanned_hit _ k _ _ _ o.invariant.0 l _ _ d o.invariant.2 w.0.taken))
-          (λ w. rw (w.1, w.2, n) (scanned_miss _ k _ _ _ o.invariant.0 l _ _ d o.invariant.2 w.0.left))
-          c.if-name-names.branch,
+      elim c.if-name-names.branch [
+        then-name-names w ↦ rw (w.hit-is, w.stop-is, n, s) (scanned_hit _ k _ _ _ c.loop-at.invariant.0 l _ _ d c.loop-at.invariant.2 w.if-name-names.true)
+      | else-name-names w ↦ rw (w.hit-is, w.stop-is, n) (scanned_miss _ k _ _ _ c.loop-at.invariant.0 l _ _ d c.loop-at.invariant.2 w.if-name-names.false)
+      ],
     )
 
 pub returns : goal.returns
