@@ -8,6 +8,12 @@ use Rattle.matching.proofs.Written.{written_none, written_one}
 use Rattle.matching.specs.Room.{recipe_of, joined, following}
 use Rattle.matching.proofs.corners.join_asked.Goals as goal
 
+-- the corner on the chain after a corner is what it was before other corners were written
+after : (ws asked rs ms : List ℕ) (base q i : ℕ) → ((j : ℕ) → base + q ≤ j → get_or ms j 0 ≡ get_or rs j 0) → get_or ms (base + i) 0 ≡ get_or rs (base + i) 0
+    → following ws asked ms (base + q) (get_or ms (base + i) 0) ≡ following ws asked rs (base + q) (get_or rs (base + i) 0)
+after ws asked rs ms base q i same e =
+    following_same ws asked rs ms (base + q) (get_or ms (base + i) 0) same ∙ ap (following ws asked rs (base + q)) e
+
 pub loop-i-init : goal.loop-i-init
 loop-i-init c = (omega arith, written_none _ _ _)
 
