@@ -4,7 +4,7 @@ use Prim.Native.Nat.{ℕ, ◌≤◌, ◌-◌}
 use native.Mathlib.Omega.{arith}
 use native.Mathlib.Numerals.{add-one}
 use lib.ListN.{length}
-use Rattle.rows.specs.Rows.{Outline, depth, descendants}
+use Rattle.rows.specs.Rows.{Row, Outline, depth, descendants}
 use Rattle.matching.specs.Asked.{chain}
 use Rattle.matching.specs.Path.{PathAsked, Marks}
 use Rattle.matching.specs.Room.{room_words, room_for}
@@ -59,7 +59,8 @@ pub shape_of-map-then-leaf_of-u : goal.shape_of-map-then-leaf_of-u
 shape_of-map-then-leaf_of-u c = c.loop-place.invariant.2.marks.size
 
 pub returns-then-leaf_of-u : goal.returns-then-leaf_of-u
-returns-then-leaf_of-u c = done c.most_chains-most.ensures.1 c.loop-place.invariant.0 c.loop-place.invariant.1 c.loop-place.invariant.2
+returns-then-leaf_of-u c = let d = done c.most_chains-most.ensures.1 c.loop-place.invariant.0 c.loop-place.invariant.1 c.loop-place.invariant.2 in
+    record { path_asked = d.0; marks = d.1 }
 
 pub ask_next-z-requires : goal.ask_next-z-requires
 ask_next-z-requires c =
@@ -75,8 +76,8 @@ returns-then-z-eq0 c =
     let a = c.loop-place.invariant.2 in
     let e = asking_stop c.args.recipe.now c.requires.shape.1 c.requires.shape.0.few c.args.shape.now c.loop-place.asked _ c.args.map.now c.loop-place.map c.args.v c.loop-place.u c.loop-place.k
         c.loop-place.place _ _ c.requires.shape.0 a c.ask_next-z.ensures (inner c.requires.shape.0 c.requires.shape.1 a.row c.leaf_of.ensures c.if-leaf_of-u.false) c.if-z-eq0.true in
-    subst (λ (us : List ℕ). (PathAsked c.args.recipe.now us c.loop-place.k × (chain us 0 ≡ c.args.v)) × Marks c.args.recipe.now us c.loop-place.k 63 c.args.map.now c.loop-place.map) (sym e)
-        (done c.most_chains-most.ensures.1 c.loop-place.invariant.0 c.loop-place.invariant.1 a)
+    let d = done c.most_chains-most.ensures.1 c.loop-place.invariant.0 c.loop-place.invariant.1 a in
+    rw e (record { path_asked = d.0; marks = d.1 })
 
 pub overflow_cast-map : goal.overflow_cast-map
 overflow_cast-map c = omega (arith, c.loop-place.invariant.2.row, c.requires.shape.0.few)
@@ -109,4 +110,5 @@ pub shape_of-map : goal.shape_of-map
 shape_of-map c = c.loop-place.invariant.2.marks.size
 
 pub returns : goal.returns
-returns c = done c.most_chains-most.ensures.1 c.loop-place.invariant.0 c.loop-place.invariant.1 c.loop-place.invariant.2
+returns c = let d = done c.most_chains-most.ensures.1 c.loop-place.invariant.0 c.loop-place.invariant.1 c.loop-place.invariant.2 in
+    record { path_asked = d.0; marks = d.1 }
