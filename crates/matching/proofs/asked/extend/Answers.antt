@@ -1,5 +1,4 @@
 use mathlib.Core.Path.{◌≡◌}
-use Prim.Native.Nat.{◌-◌}
 use native.Mathlib.Omega.{arith}
 use native.Mathlib.Numerals.{add-one}
 use Rattle.matching.proofs.AskedLaws.{extends_none, extends_one}
@@ -37,7 +36,7 @@ loop-i-preserved c = let y = c.right_of.ensures in
     let k = (c.requires.by_index c.loop-i.i (omega arith)).1 in
     let old = c.loop-i.invariant.1.asked 256 (omega arith) (λ i h. (c.requires.by_index i (omega arith)).1) c.requires.q_bound.1 in (
       omega arith,
-      rw add-one (extends_one c.args.shape.now c.args.asked.now c.args.room.now c.args.base c.args.q c.loop-i.i c.loop-i.asked c.ask-z.new.0 c.loop-i.z
+      rw add-one (extends_one c.args.shape.now c.args.asked.now c.args.room.now c.args.base c.args.q c.loop-i.i c.loop-i.asked c.ask-z.new.asked c.loop-i.z
           c.ask-z.result c.loop-i.invariant.1 (rw y at c.ask-z.ensures) (c.ask-z.ensures.asked 256 (omega arith) (omega arith) old)),
     )
 

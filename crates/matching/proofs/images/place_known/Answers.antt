@@ -18,8 +18,8 @@ bounds-map-0 c = omega (arith, c.mark_chain.ensures.size, c.requires.known_le_li
 
 pub shape_of-map : goal.shape_of-map
 shape_of-map c = let mark = c.mark_chain in
-    length-set mark.new.1.1.0 0 c.args.known ∙ mark.ensures.size
+    length-set mark.new.map 0 c.args.known ∙ mark.ensures.size
 
 pub returns : goal.returns
 returns c = let mark = c.mark_chain in
-    record { none = λ e. absurd (c.if-known-eq0.false e); known = λ o. (refl, mark.new.1.1.0, mark.ensures, refl) }
+    record { none = λ e. absurd (c.if-known-eq0.false e); known = λ o. (refl, mark.new.map, mark.ensures, refl) }

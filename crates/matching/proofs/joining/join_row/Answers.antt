@@ -21,22 +21,22 @@ pub corner_after-w-requires : goal.corner_after-w-requires
 corner_after-w-requires c = (omega (arith, c.requires.a_in_bounds.0, c.requires.shape.few), c.requires.a_bound.0, c.requires.a_bound.1)
 
 pub is_level-requires : goal.is_level-requires
-is_level-requires c = 
-    let after : let a = c.args in c.corner_after-w.result ≤ length (recipe_of a.shape.now a.labels.now) = omega (arith, c.corner_after-w.ensures, c.requires.a_in_bounds.2) in
+is_level-requires c =
+    let after : c.corner_after-w.result ≤ length (recipe_of c.args.shape.now c.args.labels.now) = omega (arith, c.corner_after-w.ensures, c.requires.a_in_bounds.2) in
     omega (arith, after, c.requires.shape.few)
 
 pub returns-then-is_level : goal.returns-then-is_level
-returns-then-is_level c = 
-    let after : let a = c.args in c.corner_after-w.result ≤ length (recipe_of a.shape.now a.labels.now) = omega (arith, c.corner_after-w.ensures, c.requires.a_in_bounds.2) in
+returns-then-is_level c =
+    let after : c.corner_after-w.result ≤ length (recipe_of c.args.shape.now c.args.labels.now) = omega (arith, c.corner_after-w.ensures, c.requires.a_in_bounds.2) in
     let g = c.requires.a_in_bounds in
-    words_wider (recipe_of c.args.shape.now c.args.labels.now) c.args.shape.now c.requires.shape c.args.a c.args.b c.corner_after-w.result g.0 g.1 after.if-a-eq0.false _ c.depth_of-d.ensures (λ h. true≢false (sym (c.is_higher.ensures.1 h) ∙ c.if-is_higher.false))
+    words_wider (recipe_of c.args.shape.now c.args.labels.now) c.args.shape.now c.requires.shape c.args.a c.args.b c.corner_after-w.result g.0 g.1 after c.if-a-eq0.false _ c.depth_of-d.ensures (λ h. true≢false (sym (c.is_higher.ensures.1 h) ∙ c.if-is_higher.false))
     (c.is_level.ensures.0 c.if-is_level.true)
     ∙ ap (join_row (recipe_of c.args.shape.now c.args.labels.now) c.args.a c.args.b) c.corner_after-w.ensures
 
 pub returns : goal.returns
-returns c = 
-    let after : let a = c.args in c.corner_after-w.result ≤ length (recipe_of a.shape.now a.labels.now) = omega (arith, c.corner_after-w.ensures, c.requires.a_in_bounds.2) in
+returns c =
+    let after : c.corner_after-w.result ≤ length (recipe_of c.args.shape.now c.args.labels.now) = omega (arith, c.corner_after-w.ensures, c.requires.a_in_bounds.2) in
     let g = c.requires.a_in_bounds in
-    words_kept (recipe_of c.args.shape.now c.args.labels.now) c.args.shape.now c.requires.shape c.args.a c.args.b c.corner_after-w.result g.0 g.1 after.if-a-eq0.false _ c.depth_of-d.ensures (λ h. true≢false (sym (c.is_higher.ensures.1 h) ∙ c.if-is_higher.false))
+    words_kept (recipe_of c.args.shape.now c.args.labels.now) c.args.shape.now c.requires.shape c.args.a c.args.b c.corner_after-w.result g.0 g.1 after c.if-a-eq0.false _ c.depth_of-d.ensures (λ h. true≢false (sym (c.is_higher.ensures.1 h) ∙ c.if-is_higher.false))
     (λ h. true≢false (sym (c.is_level.ensures.1 h) ∙ c.if-is_level.false))
     ∙ ap (join_row (recipe_of c.args.shape.now c.args.labels.now) c.args.a c.args.b) c.corner_after-w.ensures

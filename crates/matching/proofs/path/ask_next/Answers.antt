@@ -6,9 +6,6 @@ use Rattle.matching.specs.Path.{chained, asks, stops}
 use Rattle.matching.proofs.AskedLaws.{asked_few}
 use Rattle.matching.proofs.path.ask_next.Goals as goal
 
-pub offset_bounds-asked-k : goal.offset_bounds-asked-k
-offset_bounds-asked-k c = omega (arith, asked_few 256 _ _ c.requires.2)
-
 pub bounds-asked-k : goal.bounds-asked-k
 bounds-asked-k c = omega (arith, asked_few 256 _ _ c.requires.2, c.requires.0)
 
@@ -19,7 +16,7 @@ pub returns-then-leaf_of : goal.returns-then-leaf_of
 returns-then-leaf_of c = chained (sym c.leaf_of.ensures ∙ c.if-leaf_of.true ∙ c.leaf_of-2.ensures) refl refl
 
 pub returns-then-most-k : goal.returns-then-most-k
-returns-then-most-k c = stops (other c) c.if-most-k.true refl refl
+returns-then-most-k c = stops (λ e. c.if-leaf_of.false (c.leaf_of.ensures ∙ e ∙ sym c.leaf_of-2.ensures)) c.if-most-k.true refl refl
 
 pub returns : goal.returns
-returns c = asks (other c) (omega (arith, c.if-most-k.false)) c.ask.ensures
+returns c = asks (λ e. c.if-leaf_of.false (c.leaf_of.ensures ∙ e ∙ sym c.leaf_of-2.ensures)) c.if-most-k.false c.ask.ensures

@@ -1,6 +1,5 @@
 use mathlib.Core.Path.{◌≡◌, sym, ap, ◌∙◌}
-use mathlib.Core.Logic.{⊎_elim}
-use Prim.Native.Nat.{ℕ, ◌-◌}
+use Prim.Native.Nat.{ℕ}
 use native.Mathlib.Omega.{arith}
 use native.Mathlib.Numerals.{add-one}
 use lib.ListN.{length}
@@ -10,6 +9,7 @@ use Rattle.matching.proofs.CornerWords.{leaf_labelled}
 use Rattle.matching.proofs.PlainLaws.{gained_none, gained_more, gained_same, next_labelled}
 use Rattle.matching.proofs.Width.{length_words}
 use Rattle.matching.proofs.plain.gain_of.Goals as goal
+use Rattle.matching.proofs.plain.gain_of.Goals.{then-label_of-name+else-label_of-name-2, else-label_of-name}
 
 pub loop-i-init : goal.loop-i-init
 loop-i-init c = (omega arith, gained_none)
@@ -59,11 +59,12 @@ loop-i-preserved c = let label = c.label_of.ensures in
     let leaf = c.leaf_of-leaf.ensures in
     let labels = c.args.labels.now in (
       omega arith,
-      rw add-one (⊎_elim
-          (λ b. rw b.4 (gained_more c.loop-i.invariant.1 (ap (at labels) (sym leaf) ∙ sym label ∙ b.0.taken)
-          (λ e. b.3.left (b.2.ensures ∙ ap (at labels) b.1.ensures ∙ ap (λ (v : ℕ). at labels (next_row c.args.shape.now v)) leaf ∙ e))))
-          (λ b. rw b.1 (gained_same c.loop-i.invariant.1 (λ e. b.0.left (label ∙ ap (at labels) leaf ∙ e))))
-          c.if-label_of-name.branch),
+      rw add-one (elim c.if-label_of-name.branch [
+        | then-label_of-name+else-label_of-name-2 w ↦
+            rw w.gain-is (gained_more c.loop-i.invariant.1 (ap (at labels) (sym leaf) ∙ sym label ∙ w.if-label_of-name.true)
+                (λ e. w.if-label_of-name-2.false (w.label_of-then-label_of-name.ensures ∙ ap (at labels) w.next_of.ensures ∙ ap (λ (v : ℕ). at labels (next_row c.args.shape.now v)) leaf ∙ e)))
+        | else-label_of-name w ↦ rw w.gain-is (gained_same c.loop-i.invariant.1 (λ e. w.if-label_of-name.false (label ∙ ap (at labels) leaf ∙ e)))
+      ]),
     )
 
 pub returns : goal.returns
