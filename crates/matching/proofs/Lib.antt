@@ -38,6 +38,7 @@ pub mod Placing
 pub mod Refusals
 pub mod Scan
 pub mod Search
+pub mod Seeking
 pub mod Siblings
 pub mod Sides
 pub mod Standing

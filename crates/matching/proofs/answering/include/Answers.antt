@@ -8,18 +8,18 @@ use Rattle.matching.proofs.AnswerLaws.{check_tables, check_short}
 use Rattle.matching.proofs.answering.include.Goals as goal
 
 pub returns-then-map-recipe_depths : goal.returns-then-map-recipe_depths
-returns-then-map-recipe_depths c = 
-    let fine : let a = (entry c).args in tables_check a.recipe-depths.now a.recipe-labels.now a.listing-depths.now a.listing-labels.now ≡ Fine = sym c.check_tables-checked.ensures ∙ c.enum_told-1.given.1 in
-    let a = (entry c).args in
-    (check_short a.recipe-depths.now a.recipe-labels.now a.listing-depths.now a.listing-labels.now a.map-1.now fine (omega (arith, c.if-map-recipe_depths.true)), refl)
+returns-then-map-recipe_depths c =
+    let fine = sym c.in-Fine.ensures in
+    let a = c.args in
+    (check_short a.recipe_depths.now a.recipe_labels.now a.listing_depths.now a.listing_labels.now a.map.now fine (omega (arith, c.if-map-recipe_depths.true)), refl)
 
 pub answer_good-requires : goal.answer_good-requires
-answer_good-requires c = 
-    let fine : let a = (entry c).args in tables_check a.recipe-depths.now a.recipe-labels.now a.listing-depths.now a.listing-labels.now ≡ Fine = sym c.check_tables-checked.ensures ∙ c.enum_told-1.given.1 in
-    let a = (entry c).args in
-    ((tables_fine a.recipe-depths.now a.recipe-labels.now a.listing-depths.now a.listing-labels.now).0 fine, omega (arith, c.if-map-recipe_depths.false))
+answer_good-requires c =
+    let fine = sym c.in-Fine.ensures in
+    let a = c.args in
+    ((tables_fine a.recipe_depths.now a.recipe_labels.now a.listing_depths.now a.listing_labels.now).0 fine, omega (arith, c.if-map-recipe_depths.false))
 
 pub returns-in-Refused : goal.returns-in-Refused
 returns-in-Refused c = let a = c.args in
-    let e = sym c.check_tables-checked.ensures ∙ c.checked-1.given.1 in
+    let e = sym c.in-Refused.ensures in
     (check_tables a.recipe_depths.now a.recipe_labels.now a.listing_depths.now a.listing_labels.now a.map.now _ e, refl)

@@ -37,10 +37,8 @@ bounds-labels-v c = let a = c.args in
     omega (arith, r, ap length e, length_words a.shape.now 1 (length a.labels.now))
 
 pub seek_label-requires : goal.seek_label-requires
-seek_label-requires c = 
-    let leaf_is : let a = c.args in c.leaf_of.result ≡ left_leaf a.recipe.now a.v = let e = c.requires.ready.1 in
-    let r = c.requires.ready.2 in
-    rw e at (c.leaf_of.ensures ∙ c.requires.ready.0.shape.leaves c.args.v (rw e r.1)) in
+seek_label-requires c =
+    let leaf_is = rw c.requires.ready.1 at (c.leaf_of.ensures ∙ c.requires.ready.0.shape.leaves c.args.v (rw c.requires.ready.1 c.requires.ready.2.1)) in
     let a = c.args in
     let k = c.requires.ready.0 in
     let e = c.requires.ready.1 in
@@ -53,10 +51,8 @@ seek_label-requires c =
     record { well_formed = (k.listing, k.names); by_index = (h.0, h.1, h.2, sym (at_row a.labels.now a.v r.0) ∙ f) }
 
 pub returns-then-leaf_of-v : goal.returns-then-leaf_of-v
-returns-then-leaf_of-v c = 
-    let leaf_is : let a = c.args in c.leaf_of.result ≡ left_leaf a.recipe.now a.v = let e = c.requires.ready.1 in
-    let r = c.requires.ready.2 in
-    rw e at (c.leaf_of.ensures ∙ c.requires.ready.0.shape.leaves c.args.v (rw e r.1)) in
+returns-then-leaf_of-v c =
+    let leaf_is = rw c.requires.ready.1 at (c.leaf_of.ensures ∙ c.requires.ready.0.shape.leaves c.args.v (rw c.requires.ready.1 c.requires.ready.2.1)) in
     let a = c.args in
     let k = c.requires.ready.0 in
     let e = c.requires.ready.1 in
@@ -92,10 +88,8 @@ returns-then-mark-ne0 c = let a = c.args in
     record { upper_bound = row_one (SameLabel a.labels.now a.names.now) a.recipe.now a.depths.now (rw e at k.outline) k.listing.outline g.0 a.v (a.v - 1) (omega (arith, r.0)) r a.map.now a.asked.now a.room.now a.log.now a.from s g.2 g.1 c.seek_logged.result (row_first (SameLabel a.labels.now a.names.now) a.recipe.now a.depths.now (rw e at k.outline) k.listing.outline g.0 a.v (a.v - 1) (omega (arith, r.0)) r a.map.now a.asked.now a.room.now a.log.now a.from s g.2 g.1 o c.seek_logged.result f); map_len_unchanged = refl }
 
 pub ask_path-k-requires : goal.ask_path-k-requires
-ask_path-k-requires c = 
-    let leaf_is : let a = c.args in c.leaf_of.result ≡ left_leaf a.recipe.now a.v = let e = c.requires.ready.1 in
-    let r = c.requires.ready.2 in
-    rw e at (c.leaf_of.ensures ∙ c.requires.ready.0.shape.leaves c.args.v (rw e r.1)) in
+ask_path-k-requires c =
+    let leaf_is = rw c.requires.ready.1 at (c.leaf_of.ensures ∙ c.requires.ready.0.shape.leaves c.args.v (rw c.requires.ready.1 c.requires.ready.2.1)) in
     let a = c.args in
     let k = c.requires.ready.0 in
     let e = c.requires.ready.1 in
@@ -113,7 +107,7 @@ seek_behind-requires c = let a = c.args in
     let s = c.requires.stage in
     let g = c.requires.included in
     let p = c.ask_path-k.ensures in
-    record { ready = (k, rw e p.0.0); held_deep = rw (e, p.0.1) (row_held (SameLabel a.labels.now a.names.now) a.recipe.now a.depths.now (rw e at k.outline) k.listing.outline g.0 a.v (a.v - 1) (omega (arith, r.0)) r a.map.now a.asked.now a.room.now a.log.now a.from s g.2 g.1); room_len = (s.words.1, s.words.2) }
+    record { ready = (k, rw e p.path_asked.0); held_deep = rw (e, p.path_asked.1) (row_held (SameLabel a.labels.now a.names.now) a.recipe.now a.depths.now (rw e at k.outline) k.listing.outline g.0 a.v (a.v - 1) (omega (arith, r.0)) r a.map.now a.asked.now a.room.now a.log.now a.from s g.2 g.1); room_len = (s.words.1, s.words.2) }
 
 pub returns : goal.returns
 returns c = let a = c.args in

@@ -20,7 +20,7 @@ find_image-image-requires c = let a = c.args in
     let r = c.requires.ready.2 in
     let g = c.requires.included in
     let kin = c.kin_of-kin.ensures in
-    record { ready = (k, e, r); stage = c.requires.stage; included = (g.0, c.last_barred-from.ensures ∙ ap₂ (barred a.depths.now a.map.now) kin.0 kin.1, g.1) }
+    record { ready = (k, e, r); stage = c.requires.stage; included = (g.0, c.last_barred-from.ensures ∙ ap₂ (barred a.depths.now a.map.now) kin.left kin.parent, g.1) }
 
 pub overflow_cast-map : goal.overflow_cast-map
 overflow_cast-map c = let a = c.args in
