@@ -1,5 +1,5 @@
 -- A pass over a tree of the listing ends as it should, whether it goes through or finds the row sought. Assumes nothing.
-use mathlib.Core.Path.{◌≡◌, refl, sym, ap, ◌∙◌}
+use mathlib.Core.Path.{◌≡◌, refl, ap, ◌∙◌}
 use mathlib.Core.Bool.{Bool, false}
 use mathlib.Core.List.{List}
 use Prim.Native.Nat.{ℕ, suc, ◌+◌, ◌-◌, ◌≤◌, ◌<◌}
@@ -16,11 +16,11 @@ use Rattle.matching.specs.CornerRow.{Chained, OnChain}
 use Rattle.matching.specs.Shape.{word, Foreign}
 use Rattle.matching.specs.Asked.{Asked, chain, Keep, Extends}
 use Rattle.matching.specs.Room.{recipe_of, Written, closed, joined, alone, joined_alone}
-use Rattle.matching.specs.Path.{log_bytes, OnPath, Within, Told, Put, Kept, Blank, FirstPlace}
+use Rattle.matching.specs.Path.{log_bytes, Within, Told, Put, Kept, Blank, FirstPlace}
 use Rattle.matching.specs.Engine.{Ready, Begins, Sought, Ends, Found, Through, Passed, Bare, PlainTree, tree_at, corner_of, with_tree}
 use Rattle.matching.proofs.AskedLaws.{asked_fewer, after_asked}
 use Rattle.matching.proofs.Foreign.{bare_without, foreign_none, foreign_tells}
-use Rattle.matching.proofs.TreeJoins.{corner_of_fits, alone_none, below_last, alone_ends, leaf_ends, chains_more, tree_corner, tree_ends}
+use Rattle.matching.proofs.TreeJoins.{alone_none, below_last, alone_ends, leaf_ends, chains_more, tree_corner, tree_ends}
 use Rattle.matching.proofs.PlainLaws.{chain_alone, plain_without, plain_idle}
 use Rattle.matching.proofs.Passes.{found_below, found_here}
 use Rattle.matching.proofs.TreePlace.{place_ready, place_fits, place_low, place_within, place_told, begins}

@@ -1,7 +1,6 @@
 -- The room in which the corners of the chains asked are kept, level below level. Assumes nothing.
 use Rattle.std.specs.Prelude.{◌≡◌, Bool, true, false, List, [], ◌∷◌, ℕ, zero, suc, ◌+◌, ◌≤◌, ◌<◌, min, eqb, length, get_or}
 use Rattle.rows.specs.Rows.{at}
-use Rattle.rows.specs.Forest.{size}
 use Rattle.matching.specs.CornerRow.{close_row, join_row}
 use Rattle.matching.specs.Shape.{word}
 use Rattle.matching.specs.Asked.{chain, noted}

@@ -1,5 +1,6 @@
 // The inclusion answer: whether a listing includes a recipe, with its map or its corner.
 #![tactic(auto)]
+
 mod answering;
 mod asked;
 mod corners;

@@ -8,10 +8,13 @@ use Rattle.matching.proofs.AnswerLaws.{recipe_is, ready, corner_low, whole_inclu
 use Rattle.matching.proofs.answering.answer_good.Goals as goal
 
 pub top_corner-top-requires : goal.top_corner-top-requires
-top_corner-top-requires c = let a = c.args in record { ready = (
-        ready a.recipe.now a.labels.now a.depths.now a.names.now a.map.now c.requires.0 c.requires.1 c.build.new.shape c.build.ensures.0 c.build.ensures.1,
-        rw (recipe_is a.recipe.now a.labels.now a.depths.now a.names.now a.map.now c.requires.0 c.requires.1 c.build.new.shape c.build.ensures.0) c.requires.0.recipe_some,
-      ); asked_len = (length-replicate {A = ℕ} 513 0, length-replicate {A = ℕ} 14592 0, length-replicate {A = ℕ} 3072 0) }
+top_corner-top-requires c = let a = c.args in record {
+  ready = (
+    ready a.recipe.now a.labels.now a.depths.now a.names.now a.map.now c.requires.0 c.requires.1 c.build.new.shape c.build.ensures.0 c.build.ensures.1,
+    rw (recipe_is a.recipe.now a.labels.now a.depths.now a.names.now a.map.now c.requires.0 c.requires.1 c.build.new.shape c.build.ensures.0) c.requires.0.recipe_some,
+  );
+  asked_len = (length-replicate {A = ℕ} 513 0, length-replicate {A = ℕ} 14592 0, length-replicate {A = ℕ} 3072 0);
+}
 
 pub corner_of-corner-requires : goal.corner_of-corner-requires
 corner_of-corner-requires c = let a = c.args in
@@ -27,10 +30,15 @@ returns-then-not-is_whole c = let a = c.args in
 
 pub place_rows-requires : goal.place_rows-requires
 place_rows-requires c = let a = c.args in
-    let y = c.is_whole.ensures.0 c.if-not-is_whole.false in record { ready = (
+    let y = c.is_whole.ensures.0 c.if-not-is_whole.false in record {
+      ready = (
         ready a.recipe.now a.labels.now a.depths.now a.names.now a.map.now c.requires.0 c.requires.1 c.build.new.shape c.build.ensures.0 c.build.ensures.1,
         recipe_is a.recipe.now a.labels.now a.depths.now a.names.now a.map.now c.requires.0 c.requires.1 c.build.new.shape c.build.ensures.0,
-      ); in_bounds = (c.requires.0.recipe_some, c.requires.1); included = (whole_included a.recipe.now a.labels.now a.depths.now a.names.now a.map.now c.requires.0 c.requires.1 c.build.new.shape c.build.ensures.0 c.top_corner-top.result.corner c.top_corner-top.ensures.corner_value.0).0 y; asked_len = (c.top_corner-top.ensures.asked_len_2.0, c.top_corner-top.ensures.asked_len_2.1, c.top_corner-top.ensures.asked_len_2.2, c.top_corner-top.ensures.corner_value.1) }
+      );
+      in_bounds = (c.requires.0.recipe_some, c.requires.1);
+      included = (whole_included a.recipe.now a.labels.now a.depths.now a.names.now a.map.now c.requires.0 c.requires.1 c.build.new.shape c.build.ensures.0 c.top_corner-top.result.corner c.top_corner-top.ensures.corner_value.0).0 y;
+      asked_len = (c.top_corner-top.ensures.asked_len_2.0, c.top_corner-top.ensures.asked_len_2.1, c.top_corner-top.ensures.asked_len_2.2, c.top_corner-top.ensures.corner_value.1);
+    }
 
 pub returns : goal.returns
 returns c = let a = c.args in

@@ -1,8 +1,6 @@
 -- `matching::answering::include` meets its contract: the answer is document 01's, and the map slice is as it says. Assumes nothing.
-use mathlib.Core.Path.{◌≡◌, refl, sym, ◌∙◌}
+use mathlib.Core.Path.{refl, sym}
 use native.Mathlib.Omega.{arith}
-use Rattle.matching.specs.declared.tables.Tables.TheVariants.{Fine}
-use Rattle.matching.specs.Refusals.{tables_check}
 use Rattle.matching.proofs.Refusals.{tables_fine}
 use Rattle.matching.proofs.AnswerLaws.{check_tables, check_short}
 use Rattle.matching.proofs.answering.include.Goals as goal

@@ -1,6 +1,6 @@
 -- `matching::answering::place_of` meets its contract: the row of a corner is the parent of its first root, and the left-most leaf where none is. Assumes nothing.
 use mathlib.Core.Path.{◌≡◌}
-use Prim.Native.Nat.{◌≤◌, ◌+◌, ◌-◌}
+use Prim.Native.Nat.{◌≤◌, ◌+◌}
 use lib.ListN.{length}
 use Rattle.matching.specs.CornerRow.{count_back, place}
 use Rattle.matching.proofs.answering.place_of.Given as goal

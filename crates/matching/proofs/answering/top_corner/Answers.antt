@@ -13,11 +13,14 @@ use Rattle.matching.proofs.OnlyRoot.{one_row_corner, known_none, first_sought, f
 use Rattle.matching.proofs.answering.top_corner.Goals as goal
 
 pub returns-then-depths-eq0 : goal.returns-then-depths-eq0
-returns-then-depths-eq0 c = let a = c.args in record { corner_value = (
-        sym (ap (λ (f : Forest ℕ). corner_of a.shape.now a.labels.now a.names.now f 1) (forest_none a.depths.now c.if-depths-eq0.true)
-            ∙ corner_nothing (same_label a.labels.now a.names.now) (recipe_of a.shape.now a.labels.now) 1),
-        known_none,
-      ); asked_len_2 = c.requires.asked_len }
+returns-then-depths-eq0 c = let a = c.args in record {
+  corner_value = (
+    sym (ap (λ (f : Forest ℕ). corner_of a.shape.now a.labels.now a.names.now f 1) (forest_none a.depths.now c.if-depths-eq0.true)
+        ∙ corner_nothing (same_label a.labels.now a.names.now) (recipe_of a.shape.now a.labels.now) 1),
+    known_none,
+  );
+  asked_len_2 = c.requires.asked_len;
+}
 
 pub returns-then-labels-eq1 : goal.returns-then-labels-eq1
 returns-then-labels-eq1 c = let a = c.args in

@@ -12,7 +12,7 @@ pub returns-then-y-eq0 : goal.returns-then-y-eq0
 returns-then-y-eq0 c = asks_none _ _ _ (λ o. absurd (omega arith))
 
 pub is_asked-requires : goal.is_asked-requires
-is_asked-requires c = 
+is_asked-requires c =
     let few : c.args.z ≤ 256 = asked_few 256 c.args.asked.now c.args.z c.requires.1 in
     (few, c.requires.0)
 
@@ -20,22 +20,22 @@ pub returns-then-is_asked : goal.returns-then-is_asked
 returns-then-is_asked c = asks_none _ _ _ (λ o. c.is_asked.ensures.0 c.if-is_asked.true)
 
 pub offset_bounds-asked-z : goal.offset_bounds-asked-z
-offset_bounds-asked-z c = 
+offset_bounds-asked-z c =
     let few : c.args.z ≤ 256 = asked_few 256 c.args.asked.now c.args.z c.requires.1 in
     omega (arith, few)
 
 pub bounds-asked-z : goal.bounds-asked-z
-bounds-asked-z c = 
+bounds-asked-z c =
     let few : c.args.z ≤ 256 = asked_few 256 c.args.asked.now c.args.z c.requires.1 in
     omega (arith, few)
 
 pub overflow_cast-asked : goal.overflow_cast-asked
-overflow_cast-asked c = 
+overflow_cast-asked c =
     let few : c.args.z ≤ 256 = asked_few 256 c.args.asked.now c.args.z c.requires.1 in
     omega (arith, few)
 
 pub overflow_add-result : goal.overflow_add-result
-overflow_add-result c = 
+overflow_add-result c =
     let few : c.args.z ≤ 256 = asked_few 256 c.args.asked.now c.args.z c.requires.1 in
     omega (arith, few)
 

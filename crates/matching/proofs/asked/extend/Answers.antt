@@ -21,9 +21,9 @@ right_of-requires c = (c.requires.by_index c.loop-i.i (omega arith)).0
 
 pub ask-z-requires : goal.ask-z-requires
 ask-z-requires c = (
-      omega (arith, c.right_of.ensures, (c.requires.by_index c.loop-i.i (omega arith)).1),
-      c.loop-i.invariant.1.asked 256 (omega arith) (λ i h. (c.requires.by_index i (omega arith)).1) c.requires.q_bound.1,
-    )
+  omega (arith, c.right_of.ensures, (c.requires.by_index c.loop-i.i (omega arith)).1),
+  c.loop-i.invariant.1.asked 256 (omega arith) (λ i h. (c.requires.by_index i (omega arith)).1) c.requires.q_bound.1,
+)
 
 pub overflow_add-i : goal.overflow_add-i
 overflow_add-i c = omega arith

@@ -1,12 +1,11 @@
 use Rattle.rows.specs.Limits.{listing_rows}
-use Rattle.rows.specs.Rows.{descendants}
 use Rattle.rows.proofs.Depths.{last_fits}
 use Rattle.matching.specs.Asked.{path_chains}
 use Rattle.matching.proofs.AskedLaws.{asked_more}
 use Rattle.matching.proofs.TreeJoins.{level_room, few, extend_fits, more_rows, z_few, chains_more, begins_below, z_room, close_fits, tree_joins}
-use Rattle.matching.proofs.TreePass.{below_end, BelowThrough, bare_through, plain_through, plain_still, sought_below, below_found, below_fits, below_place, tree_found, tree_through}
-use Prim.Native.Nat.{suc, ◌≤◌, ◌-◌}
-use mathlib.Core.Path.{◌≡◌, ◌∙◌}
+use Rattle.matching.proofs.TreePass.{bare_through, plain_through, plain_still, sought_below, below_found, below_fits, below_place, tree_found, tree_through}
+use Prim.Native.Nat.{suc, ◌≤◌}
+use mathlib.Core.Path.{◌∙◌}
 use native.Mathlib.Omega.{arith}
 use native.Mathlib.Numerals.{add-one}
 use Rattle.matching.proofs.ForestJoins.{turn_none, so_fits, so_sought, so_begins, turn_struck, turn_one, turn_less, turn_end}

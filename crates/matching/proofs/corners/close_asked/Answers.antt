@@ -1,6 +1,6 @@
 use native.Mathlib.Omega.{arith}
 use mathlib.Core.Path.{◌≡◌, ap, ◌∙◌}
-use Prim.Native.Nat.{ℕ, ◌-◌, ◌+◌}
+use Prim.Native.Nat.{ℕ, ◌+◌}
 use native.Mathlib.Numerals.{add-one}
 use Rattle.matching.specs.Asked.{chain}
 use Rattle.matching.specs.CornerRow.{close_row}
@@ -47,12 +47,12 @@ loop-i-smaller c = omega arith
 
 pub loop-i-preserved : goal.loop-i-preserved
 loop-i-preserved c = let i = c.loop-i.i in (
-      omega arith,
-      rw add-one (written_one c.args.room.now c.args.base (closed c.args.shape.now c.args.labels.now c.args.name c.args.asked.now c.args.room.now c.args.base) i
-          c.loop-i.room c.close_row.result (omega (arith, c.requires.z_bound)) c.loop-i.invariant.1
-          (c.close_row.ensures ∙ ap (λ (w : ℕ). close_row (named c.args.labels.now) (recipe_of c.args.shape.now c.args.labels.now) (chain c.args.asked.now i) c.args.name w)
-          (c.loop-i.invariant.1.after (c.args.base + i) (omega arith)))),
-    )
+  omega arith,
+  rw add-one (written_one c.args.room.now c.args.base (closed c.args.shape.now c.args.labels.now c.args.name c.args.asked.now c.args.room.now c.args.base) i
+      c.loop-i.room c.close_row.result (omega (arith, c.requires.z_bound)) c.loop-i.invariant.1
+      (c.close_row.ensures ∙ ap (λ (w : ℕ). close_row (named c.args.labels.now) (recipe_of c.args.shape.now c.args.labels.now) (chain c.args.asked.now i) c.args.name w)
+      (c.loop-i.invariant.1.after (c.args.base + i) (omega arith)))),
+)
 
 pub returns : goal.returns
 returns c = let e : c.loop-i.i ≡ c.args.z = omega arith in rw e at c.loop-i.invariant.1

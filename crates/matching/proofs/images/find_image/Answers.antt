@@ -6,7 +6,6 @@ use lib.ListN.{length}
 use Rattle.rows.specs.Rows.{at}
 use Rattle.rows.specs.Embedding.{SameLabel}
 use Rattle.rows.proofs.AtLaws.{at_row}
-use Rattle.matching.specs.Family.{left_leaf}
 use Rattle.matching.specs.Placing.{FirstIn}
 use Rattle.matching.specs.Path.{logged}
 use Rattle.matching.proofs.Asking.{inner_row}

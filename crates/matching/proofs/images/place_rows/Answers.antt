@@ -3,8 +3,6 @@ use native.Mathlib.Decide.{dec_le}
 use Prim.Native.Nat.{ℕ, ◌+◌, ◌-◌, ◌≤◌}
 use native.Mathlib.Omega.{arith}
 use lib.ListN.{length}
-use Rattle.rows.specs.Embedding.{SameLabel}
-use Rattle.matching.specs.Images.{Stage}
 use Rattle.matching.proofs.EarliestClose.{placed_all}
 use Rattle.matching.proofs.PlaceRows.{stage_begun, stage_here, stage_back}
 use Rattle.matching.proofs.images.place_rows.Goals as goal
@@ -50,7 +48,7 @@ overflow_add-n c =
     let k = c.requires.ready.0 in
     let e = c.requires.ready.1 in
     let s = c.loop-n.invariant in
-        omega (arith, c.loop-n-test.true, ap length e, k.shape.few)
+    omega (arith, c.loop-n-test.true, ap length e, k.shape.few)
 
 pub overflow_cast-n : goal.overflow_cast-n
 overflow_cast-n c =
@@ -64,7 +62,7 @@ overflow_cast-n c =
     let k = c.requires.ready.0 in
     let e = c.requires.ready.1 in
     let s = c.loop-n.invariant in
-        omega (arith, c.loop-n-test.true, ap length e, k.shape.few)
+    omega (arith, c.loop-n-test.true, ap length e, k.shape.few)
 
 pub place_row-requires : goal.place_row-requires
 place_row-requires c =
@@ -78,7 +76,7 @@ place_row-requires c =
     let k = c.requires.ready.0 in
     let e = c.requires.ready.1 in
     let s = c.loop-n.invariant in
-        let more = c.loop-n-test.true in
+    let more = c.loop-n-test.true in
     let n : c.loop-n.n + 1 - 1 ≡ c.loop-n.n = omega arith in
     record { ready = (k, e, (omega arith, omega (arith, more))); stage = rw n (stage_here _ _ _ _ _ _ _ _ _ s); included = (c.requires.included, omega (arith, s.size, begun.size, c.requires.in_bounds.1)) }
 
@@ -94,7 +92,7 @@ loop-n-smaller c =
     let k = c.requires.ready.0 in
     let e = c.requires.ready.1 in
     let s = c.loop-n.invariant in
-        omega (arith, c.loop-n-test.true)
+    omega (arith, c.loop-n-test.true)
 
 pub loop-n-preserved : goal.loop-n-preserved
 loop-n-preserved c =
@@ -108,7 +106,7 @@ loop-n-preserved c =
     let k = c.requires.ready.0 in
     let e = c.requires.ready.1 in
     let s = c.loop-n.invariant in
-        stage_back _ _ _ _ _ _ _ _ _ _ s.size s.rest c.place_row.ensures
+    stage_back _ _ _ _ _ _ _ _ _ _ s.size s.rest c.place_row.ensures
 
 pub returns : goal.returns
 returns c =
@@ -122,5 +120,5 @@ returns c =
     let k = c.requires.ready.0 in
     let e = c.requires.ready.1 in
     let s = c.loop-n.invariant in
-        let n : c.loop-n.n ≡ length a.recipe.now = omega (arith, s.few, c.loop-n-test.false) in
+    let n : c.loop-n.n ≡ length a.recipe.now = omega (arith, s.few, c.loop-n-test.false) in
     record { earliest_close = placed_all _ a.recipe.now a.depths.now c.loop-n.map (omega (arith, s.size, begun.size, c.requires.in_bounds.1)) (rw n at s.placed); map_unchanged = s.rest ∙ begun.rest }

@@ -12,7 +12,7 @@ pub returns-then-a-eq0 : goal.returns-then-a-eq0
 returns-then-a-eq0 c = c.close_row.ensures ∙ alone_none c.args.shape.now c.args.labels.now c.args.name c.requires.shape c.args.x c.args.a c.requires.on_chain c.if-a-eq0.true
 
 pub leaf_of-requires : goal.leaf_of-requires
-leaf_of-requires c = 
+leaf_of-requires c =
     let after : let a = c.args in c.right_of-y.result ≤ length (recipe_of a.shape.now a.labels.now) = omega (arith, c.right_of-y.ensures, after_fits c.args.shape.now c.args.labels.now c.args.name c.requires.shape c.args.x c.args.a c.requires.on_chain) in
     omega (arith, after, c.requires.shape.few)
 
@@ -24,7 +24,7 @@ pub returns-then-y-eq0 : goal.returns-then-y-eq0
 returns-then-y-eq0 c = alone_last c.args.shape.now c.args.labels.now c.args.name c.requires.shape c.args.x c.args.a c.requires.on_chain c.if-a-eq0.false _ c.right_of-y.ensures c.if-y-eq0.true
 
 pub label_of-requires : goal.label_of-requires
-label_of-requires c = 
+label_of-requires c =
     let after : let a = c.args in c.right_of-y.result ≤ length (recipe_of a.shape.now a.labels.now) = omega (arith, c.right_of-y.ensures, after_fits c.args.shape.now c.args.labels.now c.args.name c.requires.shape c.args.x c.args.a c.requires.on_chain) in
     omega (arith, after, length_words c.args.shape.now 1 (length c.args.labels.now))
 

@@ -16,8 +16,7 @@ pub search-requires : goal.search-requires
 search-requires t c =
     let some : c.args.recipe_after < c.args.recipe_last = omega (arith, c.if-recipe_after-recipe_last.false, c.requires.recipe.order) in
     let recipe = tree_ends _ _ _ _ _ _ c.requires.recipe (omega arith) (omega arith) c.last_row_of-recipe_tree.ensures in
-    let listing = tree_ends _ _ _ _ _ _ c.requires.listing (omega arith) (omega arith) c.last_row_of-listing_tree.ensures in
-    (
+    let listing = tree_ends _ _ _ _ _ _ c.requires.listing (omega arith) (omega arith) c.last_row_of-listing_tree.ensures in (
       omega (arith, c.decreases, recipe, listing),
       (
         searchable_below _ _ _ _ _ _ c.requires.recipe (omega arith) (omega arith) c.last_row_of-recipe_tree.ensures,
@@ -29,8 +28,7 @@ pub search-requires-then-search : goal.search-requires-then-search
 search-requires-then-search t c =
     let some : c.args.recipe_after < c.args.recipe_last = omega (arith, c.if-recipe_after-recipe_last.false, c.requires.recipe.order) in
     let recipe = tree_ends _ _ _ _ _ _ c.requires.recipe (omega arith) (omega arith) c.last_row_of-recipe_tree.ensures in
-    let listing = tree_ends _ _ _ _ _ _ c.requires.listing (omega arith) (omega arith) c.last_row_of-listing_tree.ensures in
-    (
+    let listing = tree_ends _ _ _ _ _ _ c.requires.listing (omega arith) (omega arith) c.last_row_of-listing_tree.ensures in (
       omega (arith, c.decreases),
       (searchable_rest _ _ _ _ _ c.requires.recipe (omega arith) (omega arith), searchable_rest _ _ _ _ _ c.requires.listing (omega arith) (omega arith)),
     )
@@ -45,19 +43,18 @@ returns-then-search-2 t c =
 pub loop-passed-preserved : goal.loop-passed-preserved
 loop-passed-preserved t c =
     let some : c.args.recipe_after < c.args.recipe_last = omega (arith, c.if-recipe_after-recipe_last.false, c.requires.recipe.order) in
-    let skip = tells_skip _ _ _ _ _ _ _ _ _ some c.last_row_of-recipe_tree.ensures c.loop-passed-test.true in
-    (
+    let skip = tells_skip _ _ _ _ _ _ _ _ _ some c.last_row_of-recipe_tree.ensures c.loop-passed-test.true in (
       omega arith,
       omega arith,
       λ r next.
-      c.loop-passed.invariant.2 r (elim c.if-listing_labels-passed.branch [
-        then-listing_labels-passed+else-search w ↦
-        skip _ w.last_row_of-listing_tree.ensures (elim w.else-search.branch [
-          else-search-via-then-search+else-search-2 b ↦ not_behind _ b.if-search-2.false b.search-then-search.ensures
-        | else-search-via-else-search b ↦ not_below _ b.if-search.false w.search.ensures
-        ]) r next
-      | else-listing_labels-passed w ↦ skip _ refl (other_label w.if-listing_labels-passed.false) r next
-      ]),
+          c.loop-passed.invariant.2 r (elim c.if-listing_labels-passed.branch [
+            | then-listing_labels-passed+else-search w ↦
+                skip _ w.last_row_of-listing_tree.ensures (elim w.else-search.branch [
+                  | else-search-via-then-search+else-search-2 b ↦ not_behind _ b.if-search-2.false b.search-then-search.ensures
+                  | else-search-via-else-search b ↦ not_below _ b.if-search.false w.search.ensures
+                ]) r next
+            | else-listing_labels-passed w ↦ skip _ refl (other_label w.if-listing_labels-passed.false) r next
+          ]),
     )
 
 pub returns : goal.returns

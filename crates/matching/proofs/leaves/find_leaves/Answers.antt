@@ -34,9 +34,9 @@ loop-v-smaller c = omega arith
 
 pub loop-v-preserved : goal.loop-v-preserved
 loop-v-preserved c = (
-      omega arith,
-      leave_row c.args.depths.now c.loop-v.shape c.loop-v.v c.left_leaf-leaf.result (omega arith) c.loop-v.invariant.1 c.left_leaf-leaf.ensures,
-    )
+  omega arith,
+  leave_row c.args.depths.now c.loop-v.shape c.loop-v.v c.left_leaf-leaf.result (omega arith) c.loop-v.invariant.1 c.left_leaf-leaf.ensures,
+)
 
 pub returns : goal.returns
 returns c = rw c.loop-v-test.false at c.loop-v.invariant.1

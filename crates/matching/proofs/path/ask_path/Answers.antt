@@ -39,9 +39,9 @@ most_chains-most-requires c = c.requires.shape.0.few
 
 pub ask-k-requires : goal.ask-k-requires
 ask-k-requires c = (
-      omega (arith, c.requires.shape.2.1, c.requires.shape.0.few),
-      record { size = c.requires.asked_len.0; rows = λ i h. absurd (omega arith); places = λ i h. absurd (omega arith) },
-    )
+  omega (arith, c.requires.shape.2.1, c.requires.shape.0.few),
+  record { size = c.requires.asked_len.0; rows = λ i h. absurd (omega arith); places = λ i h. absurd (omega arith) },
+)
 
 pub widest_child-u-requires : goal.widest_child-u-requires
 widest_child-u-requires c = c.requires.shape
@@ -49,7 +49,7 @@ widest_child-u-requires c = c.requires.shape
 pub loop-place-init : goal.loop-place-init
 loop-place-init c =
     let f = asking_first c.args.recipe.now c.requires.shape.1 c.requires.shape.0.few c.args.asked.now _ c.args.map.now c.args.v _ _ c.requires.asked_len.0 c.requires.shape.2
-        c.requires.shape.3 c.ask-k.ensures c.widest_child-u.ensures in
+    c.requires.shape.3 c.ask-k.ensures c.widest_child-u.ensures in
     (omega (arith, f.0, c.most_chains-most.ensures.0), omega arith, f.1)
 
 pub leaf_of-requires : goal.leaf_of-requires
@@ -75,7 +75,7 @@ pub returns-then-z-eq0 : goal.returns-then-z-eq0
 returns-then-z-eq0 c =
     let a = c.loop-place.invariant.2 in
     let e = asking_stop c.args.recipe.now c.requires.shape.1 c.requires.shape.0.few c.args.shape.now c.loop-place.asked _ c.args.map.now c.loop-place.map c.args.v c.loop-place.u c.loop-place.k
-        c.loop-place.place _ _ c.requires.shape.0 a c.ask_next-z.ensures (inner c.requires.shape.0 c.requires.shape.1 a.row c.leaf_of.ensures c.if-leaf_of-u.false) c.if-z-eq0.true in
+    c.loop-place.place _ _ c.requires.shape.0 a c.ask_next-z.ensures (inner c.requires.shape.0 c.requires.shape.1 a.row c.leaf_of.ensures c.if-leaf_of-u.false) c.if-z-eq0.true in
     let d = done c.most_chains-most.ensures.1 c.loop-place.invariant.0 c.loop-place.invariant.1 a in
     rw e (record { path_asked = d.0; marks = d.1 })
 
@@ -101,9 +101,9 @@ pub loop-place-preserved : goal.loop-place-preserved
 loop-place-preserved c =
     let a = c.loop-place.invariant.2 in
     let x = asking_step c.args.recipe.now c.requires.shape.1 c.requires.shape.0.few c.args.shape.now c.loop-place.asked _ c.args.map.now c.loop-place.map c.args.v c.loop-place.u c.loop-place.k
-        c.loop-place.place _ _ c.requires.shape.0 a c.ask_next-z.ensures (inner c.requires.shape.0 c.requires.shape.1 a.row c.leaf_of.ensures c.if-leaf_of-u.false) c.loop-place.invariant.0 c.if-z-eq0.false in
+    c.loop-place.place _ _ c.requires.shape.0 a c.ask_next-z.ensures (inner c.requires.shape.0 c.requires.shape.1 a.row c.leaf_of.ensures c.if-leaf_of-u.false) c.loop-place.invariant.0 c.if-z-eq0.false in
     let n = asking_next c.args.recipe.now c.requires.shape.1 c.requires.shape.0.few _ c.args.map.now c.loop-place.map c.args.v c.loop-place.u _ c.loop-place.place _ c.requires.asked_len.1 x.1
-        c.widest_child-u-in-loop-place.ensures in
+    c.widest_child-u-in-loop-place.ensures in
     (x.0, omega (arith, c.loop-place-test.true), rw (add-one c.loop-place.place) n)
 
 pub shape_of-map : goal.shape_of-map

@@ -30,8 +30,7 @@ loop-c-smaller c =
 pub loop-c-preserved : goal.loop-c-preserved
 loop-c-preserved c =
     let here : Child c.args.recipe.now c.args.u c.loop-c.c = c.loop-c.invariant.1 (omega (arith, c.loop-c-test.true)) in
-    let e = c.right_of-c.ensures ∙ c.requires.0.rights _ here.0.1 in
-    (
+    let e = c.right_of-c.ensures ∙ c.requires.0.rights _ here.0.1 in (
       elim c.if-most-below.branch [ then-most-below w ↦ rw w.best-is here | else-most-below w ↦ rw w.best-is c.loop-c.invariant.0 ],
       λ o. rw e (next_child c.args.recipe.now c.args.u _ here (rw e at o)).0,
     )

@@ -62,7 +62,7 @@ loop-i-preserved c = let label = c.label_of.ensures in
       rw add-one (elim c.if-label_of-name.branch [
         | then-label_of-name+else-label_of-name-2 w ↦
             rw w.gain-is (gained_more c.loop-i.invariant.1 (ap (at labels) (sym leaf) ∙ sym label ∙ w.if-label_of-name.true)
-                (λ e. w.if-label_of-name-2.false (w.label_of-then-label_of-name.ensures ∙ ap (at labels) w.next_of.ensures ∙ ap (λ (v : ℕ). at labels (next_row c.args.shape.now v)) leaf ∙ e)))
+            (λ e. w.if-label_of-name-2.false (w.label_of-then-label_of-name.ensures ∙ ap (at labels) w.next_of.ensures ∙ ap (λ (v : ℕ). at labels (next_row c.args.shape.now v)) leaf ∙ e)))
         | else-label_of-name w ↦ rw w.gain-is (gained_same c.loop-i.invariant.1 (λ e. w.if-label_of-name.false (label ∙ ap (at labels) leaf ∙ e)))
       ]),
     )

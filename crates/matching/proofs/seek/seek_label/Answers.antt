@@ -1,8 +1,7 @@
-use mathlib.Core.Logic.{⊎_elim}
-use Prim.Native.Nat.{suc, ◌-◌}
+use Prim.Native.Nat.{suc}
 use native.Mathlib.Omega.{arith}
 use native.Mathlib.Numerals.{add-one}
-use Rattle.rows.specs.Rows.{at, depth}
+use Rattle.rows.specs.Rows.{depth}
 use Rattle.matching.proofs.Scan.{scanned_none, scanned_hit, scanned_miss, scanned_end}
 use Rattle.matching.proofs.seek.seek_label.Goals as goal
 use Rattle.matching.proofs.seek.seek_label.Goals.{then-name-names, else-name-names}
@@ -27,8 +26,8 @@ loop-at-preserved c = let k = c.requires.well_formed.0.outline in
       omega arith,
       omega arith,
       elim c.if-name-names.branch [
-        then-name-names w ↦ rw (w.hit-is, w.stop-is, n, s) (scanned_hit _ k _ _ _ c.loop-at.invariant.0 l _ _ d c.loop-at.invariant.2 w.if-name-names.true)
-      | else-name-names w ↦ rw (w.hit-is, w.stop-is, n) (scanned_miss _ k _ _ _ c.loop-at.invariant.0 l _ _ d c.loop-at.invariant.2 w.if-name-names.false)
+        | then-name-names w ↦ rw (w.hit-is, w.stop-is, n, s) (scanned_hit _ k _ _ _ c.loop-at.invariant.0 l _ _ d c.loop-at.invariant.2 w.if-name-names.true)
+        | else-name-names w ↦ rw (w.hit-is, w.stop-is, n) (scanned_miss _ k _ _ _ c.loop-at.invariant.0 l _ _ d c.loop-at.invariant.2 w.if-name-names.false)
       ],
     )
 

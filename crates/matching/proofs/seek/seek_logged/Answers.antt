@@ -1,7 +1,6 @@
 use mathlib.Core.Path.{sym, ◌∙◌}
 use mathlib.Core.Bool.{true≢false}
-use mathlib.Core.Logic.{⊎_elim}
-use Prim.Native.Nat.{suc, ◌-◌}
+use Prim.Native.Nat.{suc}
 use native.Mathlib.Omega.{arith}
 use native.Mathlib.Numerals.{add-one}
 use Rattle.rows.specs.Rows.{depth}
@@ -30,8 +29,8 @@ loop-passed-preserved c = let k = c.requires.well_formed.0.outline in
       omega arith,
       omega arith,
       elim c.if-is_logged.branch [
-        then-is_logged w ↦ rw (w.hit-is, w.stop-is, n, s) (scanned_hit _ k _ _ _ c.loop-passed.invariant.0 l _ _ d c.loop-passed.invariant.2 (g.0 w.if-is_logged.true))
-      | else-is_logged w ↦ rw (w.hit-is, w.stop-is, n) (scanned_miss _ k _ _ _ c.loop-passed.invariant.0 l _ _ d c.loop-passed.invariant.2 (λ p. true≢false (sym (g.1 p) ∙ w.if-is_logged.false)))
+        | then-is_logged w ↦ rw (w.hit-is, w.stop-is, n, s) (scanned_hit _ k _ _ _ c.loop-passed.invariant.0 l _ _ d c.loop-passed.invariant.2 (g.0 w.if-is_logged.true))
+        | else-is_logged w ↦ rw (w.hit-is, w.stop-is, n) (scanned_miss _ k _ _ _ c.loop-passed.invariant.0 l _ _ d c.loop-passed.invariant.2 (λ p. true≢false (sym (g.1 p) ∙ w.if-is_logged.false)))
       ],
     )
 
