@@ -14,11 +14,11 @@ agree-agreed-requires c = rw c.claim-claimed.ensures
 pub fill-requires : goal.fill-requires
 fill-requires c = 
     let judged : let a = c.args in
-    c.room-answer.result ≡ read_of a.bytes.now a.start a.limit a.depths-1.now a.labels-1.now = c.room-answer.ensures ∙ rw (c.agree-agreed.ensures, c.claim-claimed.ensures, c.most_rows.ensures) in
+    c.room-answer.result ≡ read_of a.bytes.now a.start a.limit a.depths.now a.labels.now = c.room-answer.ensures ∙ rw (c.agree-agreed.ensures, c.claim-claimed.ensures, c.most_rows.ensures) in
     rw judged (fillable c.args.bytes.now c.args.start c.args.limit c.args.depths.now c.args.labels.now)
 
 pub returns : goal.returns
 returns c = 
     let judged : let a = c.args in
-    c.room-answer.result ≡ read_of a.bytes.now a.start a.limit a.depths-1.now a.labels-1.now = c.room-answer.ensures ∙ rw (c.agree-agreed.ensures, c.claim-claimed.ensures, c.most_rows.ensures) in
+    c.room-answer.result ≡ read_of a.bytes.now a.start a.limit a.depths.now a.labels.now = c.room-answer.ensures ∙ rw (c.agree-agreed.ensures, c.claim-claimed.ensures, c.most_rows.ensures) in
     record { answer = judged; depths_after = c.fill.ensures.depths_after; labels_after = c.fill.ensures.labels_after }
