@@ -1,4 +1,4 @@
-use Rattle.std.proofs.Common.{◌+◌, ◌-◌, refl, add-zero, arith}
+use Rattle.std.proofs.Common.{◌+◌, refl, add-zero, arith}
 use Rattle.parcels.proofs.Runs.{put_turn, put_stop}
 use Rattle.parcels.proofs.Sections.{put_section}
 use Rattle.parcels.proofs.fields.put_labels.Goals as goal
