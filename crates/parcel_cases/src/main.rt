@@ -5,13 +5,13 @@
 // listing's; the input's length; the lengths of the lent depths and labels; the first value and the step that fill the slots, and the bytes to write.
 // After a case to read stands its input. Only the input and the slots that are asked for are lent.
 #![tactic(auto)]
+
 ghost use Rattle.std.specs.Prelude.{◌≡◌, ◌<◌, ◌≤◌, length, IfOk};
 ghost use Rattle.parcels.specs.Refusals.{number_of, place_of};
 
-use std::io;
-use std::io::{BufReader, BufWriter, Read, Write};
-
 use parcels::{Limit, ReadAnswer, Refusal, WriteAnswer};
+use std::io;
+use std::io::{Read, Write};
 
 const HEADER: usize = 36;
 
@@ -263,21 +263,34 @@ fn one_case(input: &mut impl Read, out: &mut impl Write) -> io::Result<bool> {
     let d = least(word(&header, 5) as usize, MOST_SLOTS);
     let l = least(word(&header, 6) as usize, MOST_SLOTS);
     if word(&header, 0) == 0 {
-        read_case(input, out, &header, &mut bytes[..b], &mut depths[..d], &mut labels[..l])?;
+        read_case(
+            input,
+            out,
+            &header,
+            &mut bytes[..b],
+            &mut depths[..d],
+            &mut labels[..l],
+        )?;
     } else {
-        write_case(out, &header, &mut bytes[..b], &mut depths[..d], &mut labels[..l])?;
+        write_case(
+            out,
+            &header,
+            &mut bytes[..b],
+            &mut depths[..d],
+            &mut labels[..l],
+        )?;
     }
     Ok(true)
 }
 
 // A proved loop has to end, and nothing says that the input does: the loop counts its turns.
 fn main(rt: HostRuntime) -> io::Result<()> {
-    let mut input = BufReader::new(rt.alloc(), rt.reader())?;
-    let mut out = BufWriter::new(rt.alloc(), io::writer(&rt))?;
+    let mut input = rt.stdin();
+    let mut out = rt.stdout();
     for _ in 0..u64::MAX {
         if !one_case(&mut input, &mut out)? {
             break;
         }
     }
-    out.flush()
+    Ok(())
 }
