@@ -1,5 +1,6 @@
 // The reader and the writer as C calls, for the bench to time beside plain C ones.
 #![tactic(auto)]
+
 ghost use Rattle.std.specs.Prelude.{◌≡◌};
 ghost use Rattle.parcels.specs.Write.{write_of, written};
 ghost use Rattle.parcel_bench.specs.Places.{read_listing, depths_after, labels_after, place_after, length_given};

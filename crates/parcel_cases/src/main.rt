@@ -5,11 +5,13 @@
 // listing's; the input's length; the lengths of the lent depths and labels; the first value and the step that fill the slots, and the bytes to write.
 // After a case to read stands its input. Only the input and the slots that are asked for are lent.
 #![tactic(auto)]
-ghost use Rattle.std.specs.Prelude.{◌≡◌, ◌<◌, ◌≤◌, length};
+
+ghost use Rattle.std.specs.Prelude.{◌≡◌, ◌<◌, ◌≤◌, length, IfOk};
 ghost use Rattle.parcels.specs.Refusals.{number_of, place_of};
 
-use libc::{STDIN_FILENO, STDOUT_FILENO};
 use parcels::{Limit, ReadAnswer, Refusal, WriteAnswer};
+use std::io;
+use std::io::{Read, Write};
 
 const HEADER: usize = 36;
 
@@ -36,6 +38,12 @@ fn least(x: usize, most: usize) -> usize
     ensures { result ≤ most }
 {
     if x < most { x } else { most }
+}
+
+fn byte_slots() -> [u8; 65536]
+    ensures { 65536 ≡ length result }
+{
+    [0; 65536]
 }
 
 fn depth_slots() -> [u16; 4100]
@@ -89,29 +97,45 @@ fn low_byte(word: u32) -> u8 {
     (word % 256) as u8
 }
 
-fn show(number: u64) {
-    io::print_decimal(STDOUT_FILENO, number);
-    io::write_all(STDOUT_FILENO, &[b'\n']);
+// Reads until the bytes are full or the input ends, and answers how many it read.
+fn read_full(input: &mut impl Read, bytes: &mut [u8]) -> io::Result<usize>
+    ensures { IfOk result (λ n. n ≤ length bytes.new) }
+{
+    let mut done = 0;
+    while done < bytes.len() {
+        let n = input.read(&mut bytes[done..])?;
+        if n == 0 {
+            break;
+        }
+        done += n;
+    }
+    Ok(done)
 }
 
-fn show_labels(labels: &[u32]) {
+fn show(out: &mut impl Write, number: u64) -> io::Result<()> {
+    writeln!(out, "{number}")
+}
+
+fn show_labels(out: &mut impl Write, labels: &[u32]) -> io::Result<()> {
     let mut i = 0;
     while i < labels.len() {
-        show(wide_label(labels[i]));
+        show(out, wide_label(labels[i]))?;
         i += 1;
     }
+    Ok(())
 }
 
 fn wide_label(label: u32) -> u64 {
     label as u64
 }
 
-fn show_depths(depths: &[u16]) {
+fn show_depths(out: &mut impl Write, depths: &[u16]) -> io::Result<()> {
     let mut i = 0;
     while i < depths.len() {
-        show(wide_depth(depths[i]));
+        show(out, wide_depth(depths[i]))?;
         i += 1;
     }
+    Ok(())
 }
 
 fn wide_depth(depth: u16) -> u64 {
@@ -151,33 +175,33 @@ fn place_of(refusal: Refusal) -> usize
 }
 
 // Three numbers: 0, the count of rows and the place after the parcel; or a refusal's number, its place and 0.
-fn show_read(answer: ReadAnswer) {
+fn show_read(out: &mut impl Write, answer: ReadAnswer) -> io::Result<()> {
     match answer {
         ReadAnswer::Rows { count, next } => {
-            show(0);
-            show(count as u64);
-            show(next as u64);
+            show(out, 0)?;
+            show(out, count as u64)?;
+            show(out, next as u64)
         }
         ReadAnswer::Refused(refusal) => {
-            show(number_of(refusal));
-            show(place_of(refusal) as u64);
-            show(0);
+            show(out, number_of(refusal))?;
+            show(out, place_of(refusal) as u64)?;
+            show(out, 0)
         }
     }
 }
 
 // Three numbers: 0, the parcel's length and 0; or a refusal's number, its place and 0.
-fn show_write(answer: WriteAnswer) {
+fn show_write(out: &mut impl Write, answer: WriteAnswer) -> io::Result<()> {
     match answer {
         WriteAnswer::Length(length) => {
-            show(0);
-            show(length as u64);
-            show(0);
+            show(out, 0)?;
+            show(out, length as u64)?;
+            show(out, 0)
         }
         WriteAnswer::Refused(refusal) => {
-            show(number_of(refusal));
-            show(place_of(refusal) as u64);
-            show(0);
+            show(out, number_of(refusal))?;
+            show(out, place_of(refusal) as u64)?;
+            show(out, 0)
         }
     }
 }
@@ -190,52 +214,83 @@ fn limit_of(word: u32) -> Limit {
     }
 }
 
-fn read_case(header: &[u8; 36], bytes: &mut [u8], depths: &mut [u16], labels: &mut [u32]) {
+fn read_case(
+    input: &mut impl Read,
+    out: &mut impl Write,
+    header: &[u8; 36],
+    bytes: &mut [u8],
+    depths: &mut [u16],
+    labels: &mut [u32],
+) -> io::Result<()> {
     let start = word(header, 1) as usize + 4294967296 * (word(header, 2) as usize);
     let first = word(header, 7);
     let step = word(header, 8);
-    io::read_full(STDIN_FILENO, bytes);
+    read_full(input, bytes)?;
     step_depths(depths, low_half(first), low_half(step));
     step_labels(labels, first, step);
-    show_read(parcels::read(bytes, start, limit_of(word(header, 3)), depths, labels));
-    show_depths(depths);
-    show_labels(labels);
+    let answer = parcels::read(bytes, start, limit_of(word(header, 3)), depths, labels);
+    show_read(out, answer)?;
+    show_depths(out, depths)?;
+    show_labels(out, labels)
 }
 
-fn write_case(header: &[u8; 36], bytes: &mut [u8], depths: &mut [u16], labels: &mut [u32]) {
+fn write_case(
+    out: &mut impl Write,
+    header: &[u8; 36],
+    bytes: &mut [u8],
+    depths: &mut [u16],
+    labels: &mut [u32],
+) -> io::Result<()> {
     let first = word(header, 7);
     let step = word(header, 8);
     step_depths(depths, low_half(first), low_half(step));
     step_labels(labels, first, step);
     step_bytes(bytes, low_byte(first), low_byte(step));
-    show_write(parcels::write(depths, labels, bytes));
-    io::write_all(STDOUT_FILENO, bytes);
+    show_write(out, parcels::write(depths, labels, bytes))?;
+    out.write_all(bytes)
 }
 
 // Runs one case, and answers whether there was one.
-fn one_case() -> bool {
+fn one_case(input: &mut impl Read, out: &mut impl Write) -> io::Result<bool> {
     let mut header = [0u8; HEADER];
-    let mut bytes = io::large_buffer();
+    let mut bytes = byte_slots();
     let mut depths = depth_slots();
     let mut labels = label_slots();
-    if io::read_full(STDIN_FILENO, &mut header) < HEADER {
-        return false;
+    if read_full(input, &mut header)? < HEADER {
+        return Ok(false);
     }
     let b = least(word(&header, 4) as usize, MOST_BYTES);
     let d = least(word(&header, 5) as usize, MOST_SLOTS);
     let l = least(word(&header, 6) as usize, MOST_SLOTS);
     if word(&header, 0) == 0 {
-        read_case(&header, &mut bytes[..b], &mut depths[..d], &mut labels[..l]);
+        read_case(
+            input,
+            out,
+            &header,
+            &mut bytes[..b],
+            &mut depths[..d],
+            &mut labels[..l],
+        )?;
     } else {
-        write_case(&header, &mut bytes[..b], &mut depths[..d], &mut labels[..l]);
+        write_case(
+            out,
+            &header,
+            &mut bytes[..b],
+            &mut depths[..d],
+            &mut labels[..l],
+        )?;
     }
-    true
+    Ok(true)
 }
 
-// A proved loop has to end, and nothing says that the input does: the loop counts its turns down.
-fn main() {
-    let mut turns = u64::MAX;
-    while turns > 0 && one_case() {
-        turns -= 1;
+// A proved loop has to end, and nothing says that the input does: the loop counts its turns.
+fn main(rt: HostRuntime) -> io::Result<()> {
+    let mut input = rt.stdin();
+    let mut out = rt.stdout();
+    for _ in 0..u64::MAX {
+        if !one_case(&mut input, &mut out)? {
+            break;
+        }
     }
+    Ok(())
 }

@@ -1,5 +1,6 @@
 // Parcels: how a table travels. A parcel is read and written whole, or refused.
 #![tactic(auto)]
+
 mod fields;
 mod judge;
 mod numbers;

@@ -9,5 +9,5 @@ use Rattle.parcels.proofs.put_parcel.Goals as goal
 
 pub returns : goal.returns
 returns c = let sums = c.of_table-whole.ensures ∙ table_sums (length c.args.labels.now) c.args.labels.now c.args.depths.now in
-    let put = c.put_sums.ensures ∙ ap (λ (s : Sums). sets c.put_depths.new.0 (8 + 6 * length c.args.labels.now) (section 4 (both s))) sums in
+    let put = c.put_sums.ensures ∙ ap (λ (s : Sums). sets c.put_depths.new.bytes (8 + 6 * length c.args.labels.now) (section 4 (both s))) sums in
     put_sections c.args.bytes.now c.args.depths.now c.args.labels.now c.requires.depths_len.0 c.put_labels.ensures c.put_depths.ensures put

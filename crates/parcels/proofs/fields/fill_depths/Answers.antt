@@ -1,4 +1,4 @@
-use Rattle.std.proofs.Common.{◌≡◌, ℕ, ◌+◌, ◌-◌, ◌++◌, drop, refl, ap, ◌∙◌, arith, length-set}
+use Rattle.std.proofs.Common.{◌≡◌, ℕ, ◌++◌, drop, refl, ap, ◌∙◌, arith, length-set}
 use Rattle.parcels.specs.Numbers.{numbers}
 use Rattle.parcels.proofs.Runs.{fill_none, fill_more}
 use Rattle.parcels.proofs.fields.fill_depths.Goals as goal

@@ -1,16 +1,16 @@
-use Rattle.std.proofs.Common.{◌+◌, ◌-◌, refl, add-zero, arith}
+use Rattle.std.proofs.Common.{◌+◌, refl, add-zero, arith}
 use Rattle.parcels.proofs.Runs.{put_turn, put_stop}
 use Rattle.parcels.proofs.Sections.{put_section}
 use Rattle.parcels.proofs.fields.put_depths.Goals as goal
 
 pub loop-i-init : goal.loop-i-init
-loop-i-init c = (omega arith, omega (arith, c.put_u32.auto.0), refl, rw add-zero)
+loop-i-init c = (omega arith, omega (arith, c.put_u32.auto.bytes), refl, rw add-zero)
 
 pub loop-i-preserved : goal.loop-i-preserved
 loop-i-preserved c = let call = c.put_u16 in
-    let put = put_turn 2 c.args.depths.now (c.args.at + 4) c.loop-i.i c.loop-i.bytes call.new.0 (omega arith) call.ensures
+    let put = put_turn 2 c.args.depths.now (c.args.at + 4) c.loop-i.i c.loop-i.bytes call.new.bytes (omega arith) call.ensures
     c.loop-i.invariant.3 in
-    (omega arith, omega arith, omega (arith, call.auto.0), put)
+    (omega arith, omega arith, omega (arith, call.auto.bytes), put)
 
 pub returns : goal.returns
 returns c = let put = put_stop 2 c.args.depths.now (c.args.at + 4) c.loop-i.i c.loop-i.bytes c.loop-i-test.false c.loop-i.invariant.3 in

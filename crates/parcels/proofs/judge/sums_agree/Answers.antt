@@ -10,7 +10,7 @@ use Rattle.parcels.proofs.Judging.{first_differs, second_differs, both_agree}
 use Rattle.parcels.proofs.judge.sums_agree.Goals as goal
 
 pub returns-then-number_u32-whole : goal.returns-then-number_u32-whole
-returns-then-number_u32-whole c = 
+returns-then-number_u32-whole c =
     let whole_sums : let a = c.args in
     c.add_depths_in-whole.result ≡ added_all none
     (words a.count (labels_in a.bytes.now a.start a.count) (depths_in a.bytes.now a.start a.count)) = let n = c.args.count in
@@ -21,14 +21,13 @@ returns-then-number_u32-whole c =
     let summed = labels ∙ ap (λ (s : Sums). added_all s (labels_in bytes c.args.start n)) counted in
     c.add_depths_in-whole.ensures ∙ place ∙ ap (λ (s : Sums). added_all s (depths_in bytes c.args.start n)) summed
     ∙ table_sums n (labels_in bytes c.args.start n) (depths_in bytes c.args.start n) in
-    
     let first_read : let a = c.args in c.number_u32.result ≡ number 4
     (drop (sums_at a.start a.count) a.bytes.now) = c.number_u32.ensures ∙ ap (λ (k : ℕ). number 4 (drop k c.args.bytes.now)) c.sums_at-at.ensures in
     sym (first_differs c.args.bytes.now c.args.start c.args.count _ whole_sums
     (λ e. c.if-number_u32-whole.true (first_read ∙ e)))
 
 pub returns-then-number_u32-whole-2 : goal.returns-then-number_u32-whole-2
-returns-then-number_u32-whole-2 c = 
+returns-then-number_u32-whole-2 c =
     let whole_sums : let a = c.args in
     c.add_depths_in-whole.result ≡ added_all none
     (words a.count (labels_in a.bytes.now a.start a.count) (depths_in a.bytes.now a.start a.count)) = let n = c.args.count in
@@ -39,10 +38,8 @@ returns-then-number_u32-whole-2 c =
     let summed = labels ∙ ap (λ (s : Sums). added_all s (labels_in bytes c.args.start n)) counted in
     c.add_depths_in-whole.ensures ∙ place ∙ ap (λ (s : Sums). added_all s (depths_in bytes c.args.start n)) summed
     ∙ table_sums n (labels_in bytes c.args.start n) (depths_in bytes c.args.start n) in
-    
     let first_read : let a = c.args in c.number_u32.result ≡ number 4
     (drop (sums_at a.start a.count) a.bytes.now) = c.number_u32.ensures ∙ ap (λ (k : ℕ). number 4 (drop k c.args.bytes.now)) c.sums_at-at.ensures in
-    
     let second_read : let a = c.args in c.number_u32-2.result ≡ number 4
     (drop (sums_at a.start a.count + 4) a.bytes.now) = c.number_u32-2.ensures ∙ ap (λ (k : ℕ). number 4 (drop (k + 4) c.args.bytes.now)) c.sums_at-at.ensures in
     let first = sym first_read ∙ c.if-number_u32-whole.false in
@@ -50,7 +47,7 @@ returns-then-number_u32-whole-2 c =
     (λ e. c.if-number_u32-whole-2.true (second_read ∙ e)))
 
 pub returns : goal.returns
-returns c = 
+returns c =
     let whole_sums : let a = c.args in
     c.add_depths_in-whole.result ≡ added_all none
     (words a.count (labels_in a.bytes.now a.start a.count) (depths_in a.bytes.now a.start a.count)) = let n = c.args.count in
@@ -61,10 +58,8 @@ returns c =
     let summed = labels ∙ ap (λ (s : Sums). added_all s (labels_in bytes c.args.start n)) counted in
     c.add_depths_in-whole.ensures ∙ place ∙ ap (λ (s : Sums). added_all s (depths_in bytes c.args.start n)) summed
     ∙ table_sums n (labels_in bytes c.args.start n) (depths_in bytes c.args.start n) in
-    
     let first_read : let a = c.args in c.number_u32.result ≡ number 4
     (drop (sums_at a.start a.count) a.bytes.now) = c.number_u32.ensures ∙ ap (λ (k : ℕ). number 4 (drop k c.args.bytes.now)) c.sums_at-at.ensures in
-    
     let second_read : let a = c.args in c.number_u32-2.result ≡ number 4
     (drop (sums_at a.start a.count + 4) a.bytes.now) = c.number_u32-2.ensures ∙ ap (λ (k : ℕ). number 4 (drop (k + 4) c.args.bytes.now)) c.sums_at-at.ensures in
     let first = sym first_read ∙ c.if-number_u32-whole.false in

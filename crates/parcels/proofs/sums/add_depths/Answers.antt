@@ -1,13 +1,13 @@
-use Rattle.std.proofs.Common.{◌-◌, sym, arith}
+use Rattle.std.proofs.Common.{sym, arith}
 use Rattle.parcels.proofs.Summing.{turn, stop}
 use Rattle.parcels.proofs.sums.add_depths.Goals as goal
 
 pub loop-i-preserved : goal.loop-i-preserved
 loop-i-preserved c = (
-      omega arith,
-      turn c.args.depths.now c.loop-i.i c.loop-i.after c.add-after.result _ (omega arith)
-          (sym c.wide_u32.ensures) c.add-after.ensures c.loop-i.invariant.1,
-    )
+  omega arith,
+  turn c.args.depths.now c.loop-i.i c.loop-i.after c.add-after.result _ (omega arith)
+      (sym c.wide_u32.ensures) c.add-after.ensures c.loop-i.invariant.1,
+)
 
 pub returns : goal.returns
 returns c = stop c.args.depths.now c.loop-i.i c.loop-i.after c.loop-i-test.false c.loop-i.invariant.1

@@ -1,4 +1,4 @@
-use Rattle.std.proofs.Common.{◌-◌, drop, sym, ◌∙◌, arith}
+use Rattle.std.proofs.Common.{drop, sym, ◌∙◌, arith}
 use Rattle.parcels.specs.Numbers.{numbers}
 use Rattle.parcels.proofs.LittleEndian.{numbers_at, numbers_length}
 use Rattle.parcels.proofs.Summing.{turn, stop}
