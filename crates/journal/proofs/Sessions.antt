@@ -5,7 +5,7 @@ use Prim.Native.Nat.{ℕ, suc, ◌+◌, ◌-◌, ◌*◌, ◌≤◌}
 use native.Mathlib.Omega.{arith}
 use lib.ListN.{length, take, drop, replicate, length-append, length-take, length-drop, length-replicate, take-append-drop}
 use lib.Seq.{length-take-le, take_at, drop_at, drop-drop, take-take}
-use Rattle.rows.specs.Rows.{Row, depth}
+use Rattle.rows.specs.Rows.{Row}
 use Rattle.journal.specs.declared.Verdict.{Verdict}
 use Rattle.journal.specs.declared.Verdict.TheVariants.{Allowed, Denied}
 use Rattle.journal.specs.Strike.{strike_depths, without, undo_depths, put_back}

@@ -1,5 +1,6 @@
 // Strike and undo: the engineer edits a listing by striking rows, and the journal takes strikes back.
 #![tactic(auto)]
+
 mod moves; // rows that gain or lose a level and move by one place, and the words of an entry
 mod judge; // which refusal, if any
 

@@ -2,9 +2,11 @@
 // Input, in bytes: 3 begins a session (slots for depths, slots for labels, rows, words of the journal, entries, and then the slots' contents);
 // 1 and a row is a strike, and any other byte an undo.
 #![tactic(auto)]
+
 ghost use Rattle.std.specs.Prelude.{◌≤◌};
 
 use journal::Answer;
+use std::io::{self, BufWriter, Read, Write};
 
 // Where the reading stands, and the sizes and counts of the session in play.
 #[derive(Clone, Copy)]
@@ -40,60 +42,66 @@ fn least(a: usize, b: usize) -> usize
 }
 
 // Writes a number and a space.
-fn say(n: u64) {
-    io::print_decimal(1, n);
-    io::write_all(1, b" ");
+fn say<W: Write>(out: &mut W, n: u64) -> io::Result<()> {
+    write!(out, "{n} ")
 }
 
 // Writes an answer, and gives the play with the counts that it leaves.
-fn settle(p: Play, at: usize, answer: Answer) -> Play {
+fn settle<W: Write>(out: &mut W, p: Play, at: usize, answer: Answer) -> io::Result<Play> {
     match answer {
         Answer::Done(rows, entries) => {
-            say(0);
-            say(rows as u64);
-            say(entries as u64);
-            Play {
+            say(out, 0)?;
+            say(out, rows as u64)?;
+            say(out, entries as u64)?;
+            Ok(Play {
                 at: at,
                 depth_slots: p.depth_slots,
                 label_slots: p.label_slots,
                 rows: rows,
                 words: p.words,
                 entries: entries,
-            }
+            })
         }
         Answer::Refused(why) => {
-            say(journal::number_of(why) as u64);
-            say(journal::place_of(why) as u64);
-            Play {
+            say(out, journal::number_of(why) as u64)?;
+            say(out, journal::place_of(why) as u64)?;
+            Ok(Play {
                 at: at,
                 depth_slots: p.depth_slots,
                 label_slots: p.label_slots,
                 rows: p.rows,
                 words: p.words,
                 entries: p.entries,
-            }
+            })
         }
     }
 }
 
 // Writes every slot, and ends the line.
-fn say_depths(depths: &[u16]) {
+fn say_depths<W: Write>(out: &mut W, depths: &[u16]) -> io::Result<()> {
     for i in 0..depths.len() {
-        say(depths[i] as u64);
+        say(out, depths[i] as u64)?;
     }
+    Ok(())
 }
 
-fn say_words(words: &[u32]) {
+fn say_words<W: Write>(out: &mut W, words: &[u32]) -> io::Result<()> {
     for i in 0..words.len() {
-        say(words[i] as u64);
+        say(out, words[i] as u64)?;
     }
+    Ok(())
 }
 
-fn say_slots(depths: &[u16], labels: &[u32], words: &[u32]) {
-    say_depths(depths);
-    say_words(labels);
-    say_words(words);
-    io::write_all(1, b"\n");
+fn say_slots<W: Write>(
+    out: &mut W,
+    depths: &[u16],
+    labels: &[u32],
+    words: &[u32],
+) -> io::Result<()> {
+    say_depths(out, depths)?;
+    say_words(out, labels)?;
+    say_words(out, words)?;
+    out.write_all(b"\n")
 }
 
 // Fills slots with the input's bytes from a place on.
@@ -148,13 +156,14 @@ fn begin(
 }
 
 // One strike, and one undo, of the session in play.
-fn strike_turn(
+fn strike_turn<W: Write>(
+    out: &mut W,
     input: &[u8],
     p: Play,
     depths: &mut [u16],
     labels: &mut [u32],
     words: &mut [u32],
-) -> Play {
+) -> io::Result<Play> {
     let at = p.at;
     let d = least(p.depth_slots, depths.len());
     let l = least(p.label_slots, labels.len());
@@ -168,18 +177,19 @@ fn strike_turn(
         p.entries,
         row,
     );
-    let next = settle(p, behind(input, at, 2), answer);
-    say_slots(&depths[..d], &labels[..l], &words[..w]);
-    next
+    let next = settle(out, p, behind(input, at, 2), answer)?;
+    say_slots(out, &depths[..d], &labels[..l], &words[..w])?;
+    Ok(next)
 }
 
-fn undo_turn(
+fn undo_turn<W: Write>(
+    out: &mut W,
     input: &[u8],
     p: Play,
     depths: &mut [u16],
     labels: &mut [u32],
     words: &mut [u32],
-) -> Play {
+) -> io::Result<Play> {
     let at = p.at;
     let d = least(p.depth_slots, depths.len());
     let l = least(p.label_slots, labels.len());
@@ -191,26 +201,39 @@ fn undo_turn(
         &mut words[..w],
         p.entries,
     );
-    let next = settle(p, behind(input, at, 1), answer);
-    say_slots(&depths[..d], &labels[..l], &words[..w]);
-    next
+    let next = settle(out, p, behind(input, at, 1), answer)?;
+    say_slots(out, &depths[..d], &labels[..l], &words[..w])?;
+    Ok(next)
 }
 
 // One turn: a session begins, or a call is made.
-fn turn(input: &[u8], p: Play, depths: &mut [u16], labels: &mut [u32], words: &mut [u32]) -> Play {
+fn turn<W: Write>(
+    out: &mut W,
+    input: &[u8],
+    p: Play,
+    depths: &mut [u16],
+    labels: &mut [u32],
+    words: &mut [u32],
+) -> io::Result<Play> {
     let at = p.at;
     let op = byte_at(input, at, 0);
     if op == 3 {
-        return begin(input, at, depths, labels, words);
+        return Ok(begin(input, at, depths, labels, words));
     }
     if op == 1 {
-        return strike_turn(input, p, depths, labels, words);
+        return strike_turn(out, input, p, depths, labels, words);
     }
-    undo_turn(input, p, depths, labels, words)
+    undo_turn(out, input, p, depths, labels, words)
 }
 
 // All turns, until the input ends.
-fn play_all(input: &[u8], depths: &mut [u16], labels: &mut [u32], words: &mut [u32]) {
+fn play_all<W: Write>(
+    out: &mut W,
+    input: &[u8],
+    depths: &mut [u16],
+    labels: &mut [u32],
+    words: &mut [u32],
+) -> io::Result<()> {
     let mut p = Play {
         at: 0,
         depth_slots: 0,
@@ -222,17 +245,21 @@ fn play_all(input: &[u8], depths: &mut [u16], labels: &mut [u32], words: &mut [u
     for _ in 0..input.len() {
         let at = p.at;
         if input.len() <= at {
-            return;
+            return Ok(());
         }
-        p = turn(input, p, depths, labels, words);
+        p = turn(out, input, p, depths, labels, words)?;
     }
+    Ok(())
 }
 
-fn main() {
-    let mut input = io::large_buffer();
-    let n = io::read_full(0, &mut input);
+// At most 65,536 bytes are read.
+fn main(rt: HostRuntime) -> io::Result<()> {
+    let mut input = Vec::new(rt.alloc());
+    rt.stdin().take(65536).read_to_end(&mut input)?;
+    let mut out = BufWriter::new(rt.alloc(), rt.stdout())?;
     let mut depths = [0u16; 80];
     let mut labels = [0u32; 80];
     let mut words = [0u32; 64];
-    play_all(&input[..n], &mut depths, &mut labels, &mut words);
+    play_all(&mut out, &input, &mut depths, &mut labels, &mut words)?;
+    out.flush()
 }

@@ -10,25 +10,26 @@ pub slice_bounds-descendants_of-end-2 : goal.slice_bounds-descendants_of-end-2
 slice_bounds-descendants_of-end-2 c = sym (length-take-le _ _ c.requires.sound.fits)
 
 pub overflow_cast-depths : goal.overflow_cast-depths
-overflow_cast-depths c = omega (arith, c.slice_known-5-1.given (c.args.row - 1))
+overflow_cast-depths c = omega (arith, c.type_inv.depths (c.args.row - 1))
 
 pub overflow_cast-below : goal.overflow_cast-below
 overflow_cast-below c = omega (
-      arith,
-      below_fits (given c) _ _ c.requires c.descendants_of-below.ensures,
-      c.requires.sound.fits,
-      c.requires.sound.capacity,
-    )
+  arith,
+  below_fits _ _ _ c.requires c.descendants_of-below.ensures,
+  c.requires.sound.fits,
+  c.requires.sound.capacity,
+)
 
 pub lower_rows-requires : goal.lower_rows-requires
 lower_rows-requires c = let told = c.descendants_of-below.ensures in
     let k = c.requires in
-    record { fit = omega (arith, below_fits (given c) _ _ k told, k.sound.fits); deep = below_deep (given c) _ _ k told }
+    record { fit = omega (arith, below_fits _ _ _ k told, k.sound.fits); deep = below_deep _ _ _ k told }
 
 pub returns : goal.returns
 returns c = let told = c.descendants_of-below.ensures in
-    let k = c.pre in
-    let label = entry_label (given c) _ _ k told in
-    let depth = entry_depth (given c) _ _ k told in
-    let entry = c.write_entry.ensures in record { depths = depths_struck (given c) _ _ k told _ _ c.lower_rows.ensures
-          c.close_depths.ensures; labels = c.close_labels.ensures; journal = entry ∙ rw (label, depth, told) }
+    let k = c.requires in
+    record {
+      depths = depths_struck _ _ _ k told _ _ c.lower_rows.ensures c.close_depths.ensures;
+      labels = c.close_labels.ensures;
+      journal = c.write_entry.ensures ∙ rw (entry_label _ _ _ k told, entry_depth _ _ _ k told, told);
+    }

@@ -1,6 +1,5 @@
 use borrow.Author.Rules.{rules}
 use mathlib.Core.Path.{◌≡◌, refl}
-use Prim.Native.Nat.{◌-◌}
 use native.Mathlib.Omega.{arith}
 use lib.ListN.{length-set}
 use Rattle.journal.proofs.Shifts.{closed, close_start, close_turn, close_end}
@@ -11,12 +10,12 @@ loop-i-init c = (search rules, search rules, refl, close_start c.args.depths.now
 
 pub loop-i-preserved : goal.loop-i-preserved
 loop-i-preserved c = (
-      search rules,
-      search rules,
-      simp length-set (omega arith),
-      close_turn c.args.depths.now c.loop-i.depths c.args.row c.loop-i.i c.requires.0 c.loop-i.invariant.0 c.loop-i.invariant.3
-          (omega arith),
-    )
+  search rules,
+  search rules,
+  simp length-set (omega arith),
+  close_turn c.args.depths.now c.loop-i.depths c.args.row c.loop-i.i c.requires.0 c.loop-i.invariant.0 c.loop-i.invariant.3
+      (omega arith),
+)
 
 pub returns : goal.returns
 returns c = let all : c.loop-i.i ≡ c.args.count = omega arith in

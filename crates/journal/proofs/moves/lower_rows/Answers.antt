@@ -12,19 +12,19 @@ loop-k-init c = (search rules, refl, sym (take-append-drop c.args.row c.args.dep
 
 pub overflow_sub-depths : goal.overflow_sub-depths
 overflow_sub-depths c = omega (
-      arith,
-      ap (λ (l : List ℕ). get_or l (c.args.row + c.loop-k.k) 0) c.loop-k.invariant.2
-          ∙ changed_at (λ d. d - 1) c.args.row c.loop-k.k c.args.depths.now,
-      c.requires.deep c.loop-k.k c.loop-k-test.true,
-    )
+  arith,
+  ap (λ (l : List ℕ). get_or l (c.args.row + c.loop-k.k) 0) c.loop-k.invariant.2
+      ∙ changed_at (λ d. d - 1) c.args.row c.loop-k.k c.args.depths.now,
+  c.requires.deep c.loop-k.k c.loop-k-test.true,
+)
 
 pub loop-k-preserved : goal.loop-k-preserved
 loop-k-preserved c = (
-      search rules,
-      simp length-set (omega arith),
-      changed_turn (λ d. d - 1) c.args.row c.loop-k.k _ c.args.depths.now
-          c.loop-k.depths (omega arith) c.loop-k.invariant.2 refl,
-    )
+  search rules,
+  simp length-set (omega arith),
+  changed_turn (λ d. d - 1) c.args.row c.loop-k.k _ c.args.depths.now
+      c.loop-k.depths (omega arith) c.loop-k.invariant.2 refl,
+)
 
 pub returns : goal.returns
 returns c = let all : c.loop-k.k ≡ c.args.below = omega arith in

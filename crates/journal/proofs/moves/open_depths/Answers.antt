@@ -1,6 +1,5 @@
 use borrow.Author.Rules.{rules}
 use mathlib.Core.Path.{refl}
-use Prim.Native.Nat.{◌-◌}
 use native.Mathlib.Omega.{arith}
 use lib.ListN.{length-set}
 use Rattle.journal.proofs.Shifts.{open_start, open_turn, open_end}

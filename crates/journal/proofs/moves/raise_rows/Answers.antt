@@ -1,7 +1,7 @@
 use borrow.Author.Rules.{rules}
 use mathlib.Core.Path.{◌≡◌, ◌∙◌, sym, ap, refl}
 use mathlib.Core.List.{List}
-use Prim.Native.Nat.{ℕ, suc, ◌+◌, ◌-◌}
+use Prim.Native.Nat.{ℕ, suc, ◌+◌}
 use native.Mathlib.Omega.{arith}
 use native.Mathlib.Numerals.{add-one}
 use lib.ListN.{length-set, get_or, take-append-drop}
@@ -13,19 +13,19 @@ loop-k-init c = (search rules, refl, sym (take-append-drop c.args.row c.args.dep
 
 pub overflow_add-depths : goal.overflow_add-depths
 overflow_add-depths c = omega (
-      arith,
-      ap (λ (l : List ℕ). get_or l (c.args.row + c.loop-k.k) 0) c.loop-k.invariant.2
-          ∙ changed_at suc c.args.row c.loop-k.k c.args.depths.now,
-      c.requires.shallow c.loop-k.k c.loop-k-test.true,
-    )
+  arith,
+  ap (λ (l : List ℕ). get_or l (c.args.row + c.loop-k.k) 0) c.loop-k.invariant.2
+      ∙ changed_at suc c.args.row c.loop-k.k c.args.depths.now,
+  c.requires.shallow c.loop-k.k c.loop-k-test.true,
+)
 
 pub loop-k-preserved : goal.loop-k-preserved
 loop-k-preserved c = (
-      search rules,
-      simp length-set (omega arith),
-      changed_turn suc c.args.row c.loop-k.k _ c.args.depths.now c.loop-k.depths
-          (omega arith) c.loop-k.invariant.2 (add-one _),
-    )
+  search rules,
+  simp length-set (omega arith),
+  changed_turn suc c.args.row c.loop-k.k _ c.args.depths.now c.loop-k.depths
+      (omega arith) c.loop-k.invariant.2 (add-one _),
+)
 
 pub returns : goal.returns
 returns c = let all : c.loop-k.k ≡ c.args.below = omega arith in
