@@ -3,10 +3,10 @@
 // 1 and a row is a strike, and any other byte an undo.
 #![tactic(auto)]
 
-ghost use Rattle.std.specs.Prelude.{◌≤◌};
+ghost use Rattle.std.specs.Prelude.{◌≤◌, length, IfOk};
 
 use journal::Answer;
-use std::io::{self, BufWriter, Read, Write};
+use std::io::{self, Read, Write};
 
 // Where the reading stands, and the sizes and counts of the session in play.
 #[derive(Clone, Copy)]
@@ -252,14 +252,32 @@ fn play_all<W: Write>(
     Ok(())
 }
 
-// At most 65,536 bytes are read.
+// Reads until the bytes are full or the input ends, and answers how many it read.
+fn read_full(input: &mut impl Read, bytes: &mut [u8]) -> io::Result<usize>
+    ensures { IfOk result (λ n. n ≤ length bytes.new) }
+{
+    let mut done = 0;
+    while done < bytes.len() {
+        let n = input.read(&mut bytes[done..])?;
+        if n == 0 {
+            break;
+        }
+        done += n;
+    }
+    Ok(done)
+}
+
 fn main(rt: HostRuntime) -> io::Result<()> {
-    let mut input = Vec::new(rt.alloc());
-    rt.stdin().take(65536).read_to_end(&mut input)?;
-    let mut out = BufWriter::new(rt.alloc(), rt.stdout())?;
+    let mut input = [0u8; 65536];
+    let n = read_full(&mut rt.stdin(), &mut input)?;
     let mut depths = [0u16; 80];
     let mut labels = [0u32; 80];
     let mut words = [0u32; 64];
-    play_all(&mut out, &input, &mut depths, &mut labels, &mut words)?;
-    out.flush()
+    play_all(
+        &mut rt.stdout(),
+        &input[..n],
+        &mut depths,
+        &mut labels,
+        &mut words,
+    )
 }

@@ -1,6 +1,6 @@
 -- `journal::carry_out_undo` meets its contract: its steps together leave the slices with the row returned. Assumes nothing.
 use native.Mathlib.Omega.{arith}
-use Rattle.journal.proofs.Returned.{row_first, row_last, shallow, rows_fit, rows_low, depths_undone, labels_undone}
+use Rattle.journal.proofs.Returned.{row_first, row_last, shallow, rows_fit, rows_low, depths_undone}
 use Rattle.journal.proofs.carry_out_undo.Goals as goal
 
 pub overflow_cast-depth : goal.overflow_cast-depth
@@ -24,11 +24,5 @@ open_labels-requires c = let k = c.requires in
     let t = c.read_entry-entry.ensures in
     (row_first _ _ k t, row_last _ _ k t, omega (arith, k.free, k.sound.lengths))
 
-pub returns : goal.returns
-returns c = let k = c.requires in
-    let t = c.read_entry-entry.ensures in
-    record {
-      depths = depths_undone _ _ k t _ _ c.raise_rows.ensures c.open_depths.ensures;
-      labels = labels_undone _ _ k t _ c.open_labels.ensures;
-      journal = c.write_entry.ensures;
-    }
+pub returns-clause-depths : goal.returns-clause-depths
+returns-clause-depths c = depths_undone _ _ c.requires c.read_entry-entry.ensures _ _ c.raise_rows.ensures c.open_depths.ensures

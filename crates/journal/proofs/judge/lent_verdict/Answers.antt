@@ -2,7 +2,6 @@
 use mathlib.Core.Path.{◌≡◌, ◌∙◌, sym, ap}
 use Prim.Native.Nat.{◌≤◌}
 use lib.ListN.{length}
-use lib.Seq.{length-take-le}
 use borrow.Author.Tests.{eq-eqb, ne_eqb, le-leb, lt-leb}
 use Rattle.rows.specs.Limits.{listing_rows}
 use Rattle.rows.specs.FirstBad.{first_bad}
@@ -28,9 +27,6 @@ returns-then-depths-gt-LISTING_ROWS c = simp (eq-eqb _ _ c.if-depths-labels.fals
 pub returns-then-depths-count : goal.returns-then-depths-count
 unfolding lent_verdict
 returns-then-depths-count c = simp (eq-eqb _ _ c.if-depths-labels.false, le-leb _ _ c.if-depths-gt-LISTING_ROWS.false, lt-leb _ _ c.if-depths-count.true)
-
-pub slice_bounds-first_bad-end : goal.slice_bounds-first_bad-end
-slice_bounds-first_bad-end c = sym (length-take-le _ _ c.if-depths-count.false)
 
 pub returns-in-BadStep : goal.returns-in-BadStep
 returns-in-BadStep c = sym (judged _ c.if-depths-labels.false c.if-depths-gt-LISTING_ROWS.false c.if-depths-count.false

@@ -1,11 +1,7 @@
 use mathlib.Core.Path.{◌∙◌, sym}
-use native.Mathlib.Numerals.{add-one}
 use native.Mathlib.Omega.{arith}
 use Rattle.journal.proofs.Rises.{rise_none, rise_shallow, rise_steep, rise_deep, rise_one, rise_end, rise_behind}
 use Rattle.journal.proofs.judge.may_rise.Goals as goal
-
-pub loop-left-init : goal.loop-left-init
-loop-left-init c = rw add-one
 
 pub returns-then-depths-i : goal.returns-then-depths-i
 returns-then-depths-i c = sym (rise_none c.args.depths.now c.loop-left.i _ _ _ c.loop-left-test.true c.if-depths-i.true) ∙ c.loop-left.invariant

@@ -2,7 +2,6 @@
 use mathlib.Core.Path.{◌≡◌, ◌∙◌, sym, ap}
 use mathlib.Core.Bool.{Bool}
 use native.Mathlib.Omega.{arith}
-use lib.Seq.{length-take-le}
 use borrow.Author.Tests.{le-leb, lt-leb, lt-ltb, le-ltb}
 use Rattle.journal.specs.declared.Verdict.{Verdict}
 use Rattle.journal.specs.declared.Verdict.TheVariants.{Allowed}
@@ -33,9 +32,6 @@ returns-then-depths-count c = sym (past_lent_undo _ (sym c.lent_verdict.ensures 
 
 pub read_entry-entry-requires : goal.read_entry-entry-requires
 read_entry-entry-requires c = omega (arith, (sound _ c.lent_verdict.ensures c.in-Allowed.is).entries)
-
-pub slice_bounds-may_return-end : goal.slice_bounds-may_return-end
-slice_bounds-may_return-end c = sym (length-take-le _ _ (sound _ c.lent_verdict.ensures c.in-Allowed.is).fits)
 
 pub may_return-requires : goal.may_return-requires
 may_return-requires c = (sound _ c.lent_verdict.ensures c.in-Allowed.is).rows

@@ -1,12 +1,9 @@
 use borrow.Author.Rules.{rules}
-use mathlib.Core.Path.{◌≡◌, refl}
+use mathlib.Core.Path.{◌≡◌}
 use native.Mathlib.Omega.{arith}
 use lib.ListN.{length-set}
-use Rattle.journal.proofs.Shifts.{closed, close_start, close_turn, close_end}
+use Rattle.journal.proofs.Shifts.{closed, close_turn, close_end}
 use Rattle.journal.proofs.moves.close_labels.Goals as goal
-
-pub loop-i-init : goal.loop-i-init
-loop-i-init c = (search rules, search rules, refl, close_start c.args.labels.now c.args.row)
 
 pub loop-i-preserved : goal.loop-i-preserved
 loop-i-preserved c = (

@@ -1,14 +1,11 @@
 use borrow.Author.Rules.{rules}
-use mathlib.Core.Path.{◌≡◌, ◌∙◌, sym, ap, refl}
+use mathlib.Core.Path.{◌∙◌, ap, refl}
 use mathlib.Core.List.{List}
 use Prim.Native.Nat.{ℕ, ◌+◌, ◌-◌}
 use native.Mathlib.Omega.{arith}
-use lib.ListN.{length-set, get_or, take-append-drop}
-use Rattle.journal.proofs.Shifts.{changed, changed_turn, changed_at}
+use lib.ListN.{length-set, get_or}
+use Rattle.journal.proofs.Shifts.{changed_turn, changed_at}
 use Rattle.journal.proofs.moves.lower_rows.Goals as goal
-
-pub loop-k-init : goal.loop-k-init
-loop-k-init c = (search rules, refl, sym (take-append-drop c.args.row c.args.depths.now))
 
 pub overflow_sub-depths : goal.overflow_sub-depths
 overflow_sub-depths c = omega (
@@ -25,7 +22,3 @@ loop-k-preserved c = (
   changed_turn (λ d. d - 1) c.args.row c.loop-k.k _ c.args.depths.now
       c.loop-k.depths (omega arith) c.loop-k.invariant.2 refl,
 )
-
-pub returns : goal.returns
-returns c = let all : c.loop-k.k ≡ c.args.below = omega arith in
-    c.loop-k.invariant.2 ∙ ap (λ (n : ℕ). changed (λ d. d - 1) c.args.row n c.args.depths.now) all

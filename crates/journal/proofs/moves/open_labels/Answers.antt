@@ -1,12 +1,8 @@
 use borrow.Author.Rules.{rules}
-use mathlib.Core.Path.{refl}
 use native.Mathlib.Omega.{arith}
 use lib.ListN.{length-set}
-use Rattle.journal.proofs.Shifts.{open_start, open_turn, open_end}
+use Rattle.journal.proofs.Shifts.{open_turn, open_end}
 use Rattle.journal.proofs.moves.open_labels.Goals as goal
-
-pub loop-i-init : goal.loop-i-init
-loop-i-init c = let first = open_start c.args.labels.now c.args.row c.args.label in (search rules, search rules, refl, first.0, first.1)
 
 pub loop-i-preserved : goal.loop-i-preserved
 loop-i-preserved c = let turn =
