@@ -3,10 +3,9 @@
 .PHONY: run test bench install
 PREFIX ?= /usr/local
 
-run:
-	@rt check polashvek
+run: target/bin/polashvek
 	@printf 'Recipe 10(20), listing 10(30(20)): '
-	@sh tools/run-program.sh target/bin/polashvek <crates/polashvek/stdin
+	@target/bin/polashvek <crates/polashvek/stdin
 
 test:
 	@bash .ci/run
@@ -16,10 +15,14 @@ bench:
 	@sh tools/run-c.sh bench/parcels.c parcel_bench
 	@sh bench/answer.sh
 
-install: target/staticlib/libhost.a
-	@rt check polashvek
+install: target/staticlib/libhost.a target/bin/polashvek
 	@DESTDIR='$(DESTDIR)' sh tools/install.sh '$(PREFIX)'
 
-# A crate's library for C, proved and written again only where a file of a crate is newer.
-target/staticlib/lib%.a: crates.txt $(shell find crates -type f)
-	@rt staticlib $*
+# A crate's library for C, or a crate's program, proved and written again only where a file of a crate is newer.
+sources := crates.txt $(shell find crates -name out -prune -o -type f -print)
+
+target/staticlib/lib%.a: $(sources)
+	@sh tools/library.sh $*
+
+target/bin/%: $(sources)
+	@sh tools/program.sh $*

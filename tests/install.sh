@@ -9,14 +9,7 @@ make -s install PREFIX="$made" >/dev/null
 sh tools/need.sh pkg-config pkg-config
 export PKG_CONFIG_PATH=$made/lib/pkgconfig
 strict='-std=c99 -pedantic -Wall -Wextra -Werror'
-if [ "$(uname -m)" = x86_64 ]; then
-    run=
-    gcc $strict examples/host.c $(pkg-config --cflags --libs polashvek) -o "$made/host"
-else
-    run='sh tools/run-program.sh'
-    sh tools/build-c.sh examples/host.c "$made/lib/libpolashvek.a" "$made/host" $strict $(pkg-config --cflags polashvek) \
-        -isystem "$(gcc -print-file-name=include)" -isystem "/usr/include/$(gcc -print-multiarch)" -isystem /usr/include
-fi
+gcc $strict examples/host.c $(pkg-config --cflags --libs polashvek) -o "$made/host"
 
 # The inputs: 01's whole case, E10 (recipe 10(20), listing 20), the whole case cut, and followed by more than any buffer holds.
 whole=crates/polashvek/stdin
@@ -34,20 +27,20 @@ expect() {
     failed=$((failed + 1))
     printf '%s: status %s, not %s; it said:\n%s\n' "$*" "$status" "$due" "$said"
 }
-program() { $run "$made/bin/polashvek" <"$1"; }
+program() { "$made/bin/polashvek" <"$1"; }
 
 expect 0 'included 1 0 1 3
 release: all of the recipe was found, outermost rows: 1
   recipe row 1 is listing row 1
-  recipe row 2 is listing row 3' $run "$made/host" $whole
+  recipe row 2 is listing row 3' "$made/host" $whole
 expect 1 'absent 1 1
-keep: found beneath recipe row 1, counted from the left: 1' $run "$made/host" "$made/absent"
+keep: found beneath recipe row 1, counted from the left: 1' "$made/host" "$made/absent"
 expect 2 'refused 11 69
-report: refusal 11 at place 69' $run "$made/host" "$made/cut"
+report: refusal 11 at place 69' "$made/host" "$made/cut"
 expect 2 'refused 15 70
-report: refusal 15 at place 70' $run "$made/host" "$made/long"
-expect 3 '' $run "$made/host" "$made/none"
-expect 3 '' $run "$made/host" "$made"
+report: refusal 15 at place 70' "$made/host" "$made/long"
+expect 3 '' "$made/host" "$made/none"
+expect 3 '' "$made/host" "$made"
 expect 0 'included 1 0 1 3' program $whole
 expect 0 'absent 1 1' program "$made/absent"
 expect 0 'refused 15 70' program "$made/long"

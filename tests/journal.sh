@@ -4,7 +4,7 @@
 set -eu
 cd "$(dirname "$0")/.."
 cargo build --quiet --release --offline --manifest-path second/Cargo.toml
-[ -x target/bin/journal_sessions ] || rt check journal_sessions >/dev/null
+make -s target/bin/journal_sessions
 python3 tests/journal_sessions.py --check crates/journal_sessions
 made=$(mktemp)
 trap 'rm -f "$made"' EXIT

@@ -4,7 +4,7 @@
 set -eu
 cd "$(dirname "$0")/.."
 cargo build --quiet --release --offline --manifest-path second/Cargo.toml
-[ -x target/bin/polashvek ] || rt check polashvek >/dev/null
+make -s target/bin/polashvek
 made=$(mktemp -d)
 trap 'rm -rf "$made"' EXIT
 python3 tests/limits.py "$made"

@@ -1,7 +1,7 @@
 #!/usr/bin/env python3
 """An independent reader and writer of parcels, written from document 01 alone, held against the proved ones.
 
-Usage: parcels.py        (in the repository, after `rt check parcel_cases`)
+Usage: parcels.py        (in the repository, after `make target/bin/parcel_cases`)
 It makes cases, has target/bin/parcel_cases run them, and compares each outcome whole: the answer and every lent slice afterwards.
 It ends with the number of cases that agree, or at the first that does not, with exit 1.
 """

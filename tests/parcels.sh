@@ -3,7 +3,7 @@
 set -eu
 cd "$(dirname "$0")/.."
 cargo build --quiet --release --offline --manifest-path second/Cargo.toml
-[ -x target/bin/parcel_cases ] || rt check parcel_cases >/dev/null
+make -s target/bin/parcel_cases
 python3 tests/parcels.py
 made=$(mktemp)
 trap 'rm -f "$made"' EXIT

@@ -3,7 +3,7 @@
 # source by another compiler for x86-64, as X86_64_CC=gcc.
 set -eu
 kit=${RATTLE_HOME:-$(dirname "$(dirname "$(readlink -f "$(command -v rt)")")")}
-tools=$kit/on/$(uname -m)/toolchain
+tools=$kit/toolchain
 source=$1 library=$2 program=$3
 shift 3
 compile() {

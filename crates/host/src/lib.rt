@@ -64,10 +64,9 @@ fn put_answer(input: &[u8], answer: &mut [u8]) -> usize
     put_outcome(outcome, &map, answer)
 }
 
-// The C entry, and the program's one call. Gives the length of the input's line, which stands at the front of the answer buffer
-// afterwards, all later bytes as they were; or 0 with no byte changed for number 19, a buffer under 1,295 bytes.
-#[unsafe(no_mangle)]
-pub extern "C" fn polashvek_answer(input: &[u8], answer: &mut [u8]) -> usize
+// The C entry, which the crate host_c exports, and the program's one call. Gives the length of the input's line, which stands at the
+// front of the answer buffer afterwards, all later bytes as they were; or 0 with no byte changed for number 19, a buffer under 1,295 bytes.
+pub fn polashvek_answer(input: &[u8], answer: &mut [u8]) -> usize
     ensures { Entry input.now answer.old result answer.new }
 {
     if answer.len() < ANSWER_BYTES {

@@ -1,5 +1,6 @@
 // The inclusion answer as a C call, for the bench to time and for the test of its room on the stack.
 #![tactic(auto)]
+
 ghost use Rattle.std.specs.Prelude.{◌≡◌, ◌+◌, ◌*◌};
 ghost use Rattle.inclusion_bench.specs.Code.{Coded};
 

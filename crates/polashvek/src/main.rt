@@ -2,13 +2,34 @@
 //
 // Two parcels have at most 20 + 6 * 256 + 20 + 6 * 4,096 = 26,152 bytes, so one byte more than that is read and the rest is left
 // unread: a count over its limit is refused 16 where it stands, and else the first byte after the listing's parcel, which is
-// number 15's place, is among those read. No later byte can change the line: `line-front` of the host's laws proves it.
-// A read that fails is an input that ended there.
+// number 15's place, is among those read. No later byte can change the line: `line_front` of the host's laws proves it.
+// A read that fails is an input that ended there. A write that fails ends the program with an error.
 #![tactic(auto)]
-fn main() {
+
+ghost use Rattle.std.specs.Prelude.{◌≤◌, length};
+
+use std::io;
+use std::io::Read;
+
+// Reads until the buffer is full, the input ends or a read fails, and gives how many bytes stand at the buffer's front.
+fn read_full(reader: &mut impl Read, buffer: &mut [u8]) -> usize
+    ensures { result ≤ length buffer.new }
+{
+    let mut count = 0;
+    while count < buffer.len() {
+        match reader.read(&mut buffer[count..]) {
+            Ok(0) => break,
+            Ok(n) => count += n,
+            Err(_) => break,
+        }
+    }
+    count
+}
+
+fn main(rt: HostRuntime) -> io::Result<()> {
     let mut input = [0u8; 26153];
-    let count = io::read_full(libc::STDIN_FILENO, &mut input);
+    let count = read_full(&mut rt.stdin(), &mut input);
     let mut answer = [0u8; 1295];
     let length = host::polashvek_answer(&input[..count], &mut answer);
-    io::write_all(libc::STDOUT_FILENO, &answer[..length]);
+    rt.write_all(&answer[..length])
 }
