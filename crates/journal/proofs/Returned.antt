@@ -11,7 +11,7 @@ use Rattle.rows.specs.Rows.{Row, depth}
 use Rattle.rows.proofs.Depths.{last_fits}
 use Rattle.journal.specs.Strike.{raise, undo_depths, put_back}
 use Rattle.journal.specs.Entry.{Entry}
-use Rattle.journal.specs.Lent.{Lent, used_depths, newest, undone}
+use Rattle.journal.specs.Lent.{Lent, used_depths, used_labels, newest, undone}
 use Rattle.journal.specs.Refusals.{Returnable}
 use Rattle.journal.proofs.Good.{depth_low}
 use Rattle.journal.proofs.Shifts.{changed}
@@ -101,3 +101,6 @@ module _ (s : Lent) (e : Entry) (k : Returnable s) (t : e ≡ newest s) where
       ∙ put_changed (used_depths s) e.row e.depth e.below row_first (omega (arith, row_last, used)))
       (drop_changed suc (e.row - 1) (suc s.rows) e.below s.depths h f)
       ∙ ap (λ (x : Entry). undo_depths (used_depths s) x.row x.depth x.below ++ drop (suc s.rows) s.depths) t
+
+  pub labels_undone : (ys : List ℕ) → ys ≡ put_back (used_labels s) e.row e.label ++ drop (suc s.rows) s.labels → ys ≡ (undone s).labels
+  labels_undone ys q = q ∙ ap (λ (x : Entry). put_back (used_labels s) x.row x.label ++ drop (suc s.rows) s.labels) t

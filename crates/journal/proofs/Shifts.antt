@@ -6,7 +6,7 @@ use native.Mathlib.Nat.{zero-add}
 use native.Mathlib.Numerals.{add-one}
 use native.Mathlib.Omega.{arith}
 use lib.ListN.{length, get_or, take, drop, set, length-drop}
-use lib.Seq.{paste, paste-suc, drop-paste, length_paste_head, drop-cons, get_or-drop, take-take, set_at, sets-eq}
+use lib.Seq.{paste, paste-zero, paste-suc, drop-paste, length_paste_head, drop-cons, get_or-drop, take-take, set_at, sets-eq}
 use Rattle.journal.specs.Strike.{first_by, without, put_back}
 use Rattle.journal.specs.Entry.{entry_words, written}
 
@@ -101,6 +101,9 @@ module _ (xs ys : List ℕ) (r i : ℕ) (a : 1 ≤ r) (b : r ≤ i) (e : ys ≡ 
       ∙ set_at p (get_or xs (i - 1) 0) (drop (suc (i - 1)) xs) 0 (i - 1) (length_paste_head xs (r - 1) (drop r xs) (i - r) (omega arith) (omega arith) ∙ m)
       ∙ ap₂ (λ (q : List ℕ) (x : ℕ). q ++ (0 ∷ drop x xs)) (sym w) l
 
+pub close_start : (xs : List ℕ) (r : ℕ) → xs ≡ closed xs r r
+close_start xs r = let z : r - r ≡ 0 = omega arith in rw z (paste-zero xs (r - 1) (drop r xs))
+
 -- the rows from place r on moved down as far as row i, and v put at place r
 abbrev pub opened : List ℕ → ℕ → ℕ → ℕ → List ℕ
 opened xs r v i = paste xs (r - 1) (v ∷ drop (r - 1) xs) (i - r)
@@ -108,6 +111,9 @@ opened xs r v i = paste xs (r - 1) (v ∷ drop (r - 1) xs) (i - r)
 -- what moves on to row i
 abbrev pub moves : List ℕ → ℕ → ℕ → ℕ → ℕ
 moves xs r v i = get_or (v ∷ drop (r - 1) xs) (i - r) 0
+
+pub open_start : (xs : List ℕ) (r v : ℕ) → (xs ≡ opened xs r v r) × (v ≡ moves xs r v r)
+open_start xs r v = let z : r - r ≡ 0 = omega arith in rw z (paste-zero xs (r - 1) (v ∷ drop (r - 1) xs), refl)
 
 module _ (xs ys : List ℕ) (r v w i : ℕ) (a : 1 ≤ r) (b : r ≤ i) (e : ys ≡ opened xs r v i) where
   pub open_turn : i ≤ length xs → w ≡ moves xs r v i → (set ys (i - 1) w ≡ opened xs r v (i + 1)) × (get_or ys (i - 1) 0 ≡ moves xs r v (i + 1))

@@ -18,7 +18,8 @@ use Rattle.journal.specs.declared.Verdict.{Verdict}
 use Rattle.journal.specs.declared.Verdict.TheVariants.{Allowed, Denied}
 use Rattle.journal.specs.Entry.{room, may_return}
 use Rattle.journal.specs.Lent.{Lent, used_depths, newest}
-use Rattle.journal.specs.Refusals.{unless, unless_bad, and_then, journal_verdict, lent_verdict, strike_verdict, undo_verdict, Sound, Strikable, Returnable}
+use Rattle.journal.specs.declared.Answer.TheVariants.{Done, Refused}
+use Rattle.journal.specs.Refusals.{answered, settled, unless, unless_bad, and_then, journal_verdict, lent_verdict, strike_verdict, undo_verdict, Sound, Strikable, Returnable}
 
 module _ (s : Lent) where
   -- past 21 and 22 the rows are judged, and past 23 the journal
@@ -124,3 +125,17 @@ module _ (s : Lent) where
         record { sound = lent_iff.0 a.0; some = leb-true _ _ b.0; free = ltb-true _ _ f.0; returns = g.0 },
     λ k. rw (lent_iff.1 k.sound, le-leb _ _ k.some, lt-ltb _ _ k.free, k.returns),
   )
+
+-- what a call answers and leaves, by its judgement
+module _ {u : Verdict} (after before : Lent) where
+  pub refused : {why : Refusal} → u ≡ Denied why
+      → (Refused why ≡ answered u after)
+      × ((before.depths ≡ (settled u after before).depths) ×
+      ((before.labels ≡ (settled u after before).labels) × (before.journal ≡ (settled u after before).journal)))
+  refused e = rw e (refl, (refl, (refl, refl)))
+
+  pub accepted : u ≡ Allowed
+      → (Done after.rows after.entries ≡ answered u after)
+      × ((after.depths ≡ (settled u after before).depths) ×
+      ((after.labels ≡ (settled u after before).labels) × (after.journal ≡ (settled u after before).journal)))
+  accepted e = rw e (refl, (refl, (refl, refl)))

@@ -45,7 +45,6 @@ pub mod Standing
 pub mod Sweeps
 pub mod TreeJoins
 pub mod TreePass
-pub mod TreePlace
 pub mod TreeRow
 pub mod Verdict
 pub mod Width

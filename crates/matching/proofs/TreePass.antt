@@ -1,5 +1,5 @@
 -- A pass over a tree of the listing ends as it should, whether it goes through or finds the row sought. Assumes nothing.
-use mathlib.Core.Path.{◌≡◌, refl, ap, ◌∙◌}
+use mathlib.Core.Path.{◌≡◌, refl, sym, ap, ◌∙◌}
 use mathlib.Core.Bool.{Bool, false}
 use mathlib.Core.List.{List}
 use Prim.Native.Nat.{ℕ, suc, ◌+◌, ◌-◌, ◌≤◌, ◌<◌}
@@ -11,20 +11,22 @@ use Rattle.rows.specs.Rows.{at, Row, depth, descendants, last_row}
 use Rattle.rows.specs.Forest.{size, forest_at, below}
 use Rattle.rows.specs.Embedding.{SameLabel}
 use Rattle.rows.proofs.Depths.{last_fits}
+use Rattle.rows.proofs.Order.{Compared, less, same, more, compared}
 use Rattle.rows.proofs.Windows.{window_below, size_below}
+use Rattle.matching.specs.Family.{parent}
 use Rattle.matching.specs.CornerRow.{Chained, OnChain}
 use Rattle.matching.specs.Shape.{word, Foreign}
 use Rattle.matching.specs.Asked.{Asked, chain, Keep, Extends}
 use Rattle.matching.specs.Room.{recipe_of, Written, closed, joined, alone, joined_alone}
-use Rattle.matching.specs.Path.{log_bytes, Within, Told, Put, Kept, Blank, FirstPlace}
+use Rattle.matching.specs.Path.{log_bytes, OnPath, Within, Told, Put, Kept, Blank, Met, FirstPlace, met, none}
 use Rattle.matching.specs.Engine.{Ready, Begins, Sought, Ends, Found, Through, Passed, Bare, PlainTree, tree_at, corner_of, with_tree}
 use Rattle.matching.proofs.AskedLaws.{asked_fewer, after_asked}
+use Rattle.matching.proofs.Chains.{chained_deep, chained_inside}
 use Rattle.matching.proofs.Foreign.{bare_without, foreign_none, foreign_tells}
-use Rattle.matching.proofs.TreeJoins.{alone_none, below_last, alone_ends, leaf_ends, chains_more, tree_corner, tree_ends}
+use Rattle.matching.proofs.TreeJoins.{corner_of_fits, alone_none, below_last, alone_ends, leaf_ends, chains_more, tree_corner, tree_ends}
 use Rattle.matching.proofs.PlainLaws.{chain_alone, plain_without, plain_idle}
-use Rattle.matching.proofs.Passes.{found_below, found_here}
-use Rattle.matching.proofs.TreePlace.{place_ready, place_fits, place_low, place_within, place_told, begins}
-use Rattle.matching.proofs.PathLaws.{path_same, told_same, kept_wide, kept_both, kept_one, on_first}
+use Rattle.matching.proofs.Passes.{chain_deep, chain_low, chain_here, found_below, found_here}
+use Rattle.matching.proofs.PathLaws.{path_same, told_same, kept_wide, kept_both, kept_one, joint, path_tree, on_first, within_down, path_down}
 
 module _ (ws rl td tl : List ℕ) (k : Ready ws rl td tl) (asked rs ls : List ℕ) (base q l first : ℕ) (b : Begins ws rl asked rs base q (depth td (suc first)))
     (h : first < length td) (s : Sought ws rl asked q l) (n : length ls ≡ log_bytes) (fits : (i : ℕ) → i < q → OnChain (recipe_of ws rl) (chain asked i) (get_or rs (base + i) 0)) where
@@ -173,16 +175,100 @@ module _ (ws rl td tl : List ℕ) (k : Ready ws rl td tl) (asked rs ls : List �
           tree_corner ws rl td tl k asked rs base q first b h fits kids us z x vs rs₁ p.ends rs₂ v i (omega (arith, x.least, s.few))
           ∙ ap (corner_of ws rl tl (tree_at td first)) (kept_chains i o)
 
-      -- so they tell which rows of the path the tree includes
-      pub below_fits : (i : ℕ) → i < l → (chain vs i ≤ 256) × (get_or rs₂ (base + q + i) 0 ≤ 256) × (1 ≤ get_or rs₂ (base + q + i) 0 → word 3 ws (chain vs 0) ≤ word 3 ws (get_or rs₂ (base + q + i) 0))
-      below_fits = place_ready ws rl td tl k asked vs l s.path kept_chains first h rs₂ (base + q) corner
+      abbrev w : ℕ → ℕ
+      w i = get_or rs₂ (base + q + i) 0
 
-      pub below_place : (place : ℕ) → FirstPlace ws vs rs₂ (base + q) l place → place ≤ 63
-      below_place = place_fits ws rl td tl k asked vs l s.path kept_chains first h rs₂ (base + q) corner
+      w_row : (i : ℕ) → i < l → w i ≤ length rd
+      w_row i o = rw (corner i o) (corner_of_fits ws rl td tl k (tree_at td first) (chain asked i) (s.path.rows i o).1)
+
+      -- the depths of the corners and of the chains, as the words have them
+      w_word : (i : ℕ) → i < l → word 3 ws (w i) ≡ depth rd (w i)
+      w_word i o = k.shape.depths (w i) (w_row i o)
+
+      chain_word : (i : ℕ) → i < l → word 3 ws (chain vs i) ≡ depth rd (chain asked i)
+      chain_word i o = ap (word 3 ws) (kept_chains i o) ∙ k.shape.depths (chain asked i) (s.path.rows i o).1
+
+      w_deep : (i : ℕ) → i < l → 1 ≤ w i → depth rd (chain asked i) ≤ depth rd (w i)
+      w_deep i o = chain_deep ws rl td tl k (chain asked i) (s.path.rows i o) first h (w i) (corner i o)
+
+      pub below_fits : (i : ℕ) → i < l → (chain vs i ≤ 256) × (w i ≤ 256) × (1 ≤ w i → word 3 ws (chain vs 0) ≤ word 3 ws (w i))
+      below_fits i o = (
+        omega (arith, kept_chains i o, s.path.rows i o, k.shape.few),
+        omega (arith, w_row i o, k.shape.few),
+        λ c. omega (arith, chain_word 0 (omega arith), w_word i o, w_deep i o c, path_tree rd k.outline asked l s.path 0 i (omega arith) o),
+      )
+
+      -- a place fits six bits
+      pub place_fits : (place : ℕ) → FirstPlace ws vs rs₂ (base + q) l place → place ≤ 63
+      place_fits place (met i o n g e) = omega (arith, e, w_word i o, k.shallow (w i) (g.0, w_row i o))
+      place_fits place (none n e) = omega arith
 
       module _ (place : ℕ) (f : FirstPlace ws vs rs₂ (base + q) l place) (ms : List ℕ) (note : Put ms₁ first place l ms) where
+        -- a corner tells of the path where the tree includes a row of its chain that stands on the path
+        within_met : (i v : ℕ) → (o : OnPath rd asked l i v) → Within Fit rd td v (suc first) → Met ws vs l o.nth (w o.nth) × (depth rd (w o.nth) ≤ depth rd v)
+        within_met i v o c =
+            let j = o.nth in
+            let x = chain_low ws rl td tl k (chain asked j) (s.path.rows j o.few) first h (w j) (corner j o.few) v o.row o.on c in
+            ((x.0, λ n. omega (arith, w_word j o.few, chain_word (suc j) n, x.1, o.high n)), x.1)
+
+        -- so the place is no farther down than any row of the path that the tree includes
+        place_low : (i v : ℕ) → OnPath rd asked l i v → Within Fit rd td v (suc first) → place ≤ i
+        place_low i v o c = go f (within_met i v o c)
+          where
+            go : FirstPlace ws vs rs₂ (base + q) l place → Met ws vs l o.nth (w o.nth) × (depth rd (w o.nth) ≤ depth rd v) → place ≤ i
+            go (none n e) m = absurd (n o.nth o.few m.0)
+            go (met j d n g e) m = side (compared j o.nth)
+              where
+                side : Compared j o.nth → place ≤ i
+                side (more a) = absurd (n o.nth a m.0)
+                side (same a) = omega (arith, e, w_word j d, chain_word 0 (omega arith), ap (λ (n : ℕ). depth rd (w n)) a, m.1, o.deep)
+                side (less a) =
+                    let t = path_tree rd k.outline asked l s.path (suc j) o.nth a o.few in
+                    omega (arith, e, w_word j d, chain_word 0 (omega arith), g.1 (omega (arith, o.few)), chain_word (suc j) (omega (arith, o.few)), t.2, o.deep, on_deep)
+                  where
+                    on_deep : depth rd (chain asked o.nth) ≤ depth rd v
+                    on_deep = omega (arith, chained_deep rd k.outline (chain asked o.nth) (s.path.rows o.nth o.few) v o.on)
+
+        -- and the tree includes all rows of the path from the place on
+        place_within : (i v : ℕ) → i < 63 → OnPath rd asked l i v → place ≤ i → Within Fit rd td v (suc first)
+        place_within i v low o c = go f
+          where
+            go : FirstPlace ws vs rs₂ (base + q) l place → Within Fit rd td v (suc first)
+            go (none n e) = absurd (omega arith)
+            go (met j d n g e) = at_row (chain_here ws rl td tl k (chain asked j) (s.path.rows j d) first h (w j) (corner j d) g.0)
+              where
+                -- the corner stands no deeper than v
+                deep : depth rd (w j) ≤ depth rd v
+                deep = omega (arith, e, w_word j d, chain_word 0 (omega arith), o.deep)
+
+                at_row : (u : ℕ) × Row rd u × Chained rd (chain asked j) u × (depth rd u ≡ depth rd (w j)) × Within Fit rd td u (suc first) → Within Fit rd td v (suc first)
+                at_row (u, q, a, b, i) = side (compared j o.nth)
+                  where
+                    top : Row rd (chain asked j)
+                    top = s.path.rows j d
+
+                    -- a row of the corner's chain that is no higher than the corner
+                    down : (y : ℕ) → Chained rd (chain asked j) y → depth rd (w j) ≤ depth rd y → Within Fit rd td y (suc first)
+                    down y e l =
+                        let n : u ≤ y = omega (arith, chained_deep rd k.outline (chain asked j) top y e, chained_deep rd k.outline (chain asked j) top u a, b, e.0, a.0) in
+                        within_down Fit rd td k.outline k.listing.outline u y (suc first) q n
+                        (chained_inside rd k.outline u q y (n, e.1 ∙ sym a.1)) row i
+
+                    side : Compared j o.nth → Within Fit rd td v (suc first)
+                    side (same z) = down v (rw z o.on) deep
+                    side (less z) =
+                        let n : suc j < l = omega (arith, o.few) in
+                        let q = joint rd k.outline asked l s.path j n in
+                        path_down Fit rd td k.outline k.listing.outline asked l s.path j o.nth v (suc first) z o.few o.on row
+                        (down (parent rd (chain asked (suc j))) (s.path.down j n) (omega (arith, g.1 n, w_word j d, chain_word (suc j) n, q.step)))
+                    side (more z) =
+                        let n : suc o.nth < l = omega (arith, d) in
+                        let t = path_tree rd k.outline asked l s.path (suc o.nth) j z d in
+                        absurd (omega (arith, o.high n, t.2, w_deep j d g.0, deep))
+
         here_told : Told Fit rd td asked l ms (suc first)
-        here_told = place_told ws rl td tl k asked vs l s.path kept_chains first h rs₂ (base + q) corner place f ms note.here
+        here_told i v m n o =
+            rw (note.here (omega (arith, o.few))) (λ e. place_low i v o (suc first, omega arith, omega arith, e), λ c e. place_within i v n o e)
 
         all_told : (y : ℕ) → first < y → y ≤ last → Told Fit rd td asked l ms y
         all_told y a c = go (ℕ_discrete y (suc first))
@@ -196,11 +282,19 @@ module _ (ws rl td tl : List ℕ) (k : Ready ws rl td tl) (asked rs ls : List �
             kept_both ls (suc first) last ms₁ ms (rw last_row_lem at (kept_wide ls (suc (suc first)) below_end (suc first) below_end ms₁ (omega arith) (omega arith) p.kept))
             (kept_one ms₁ first place l ms last (omega arith) note)
 
+        -- a path begins with the row sought
+        begins : place ≡ 0 → 1 ≤ l
+        begins e = go f
+          where
+            go : FirstPlace ws vs rs₂ (base + q) l place → 1 ≤ l
+            go (none n o) = absurd (omega arith)
+            go (met j d n g o) = omega arith
+
         pub tree_found : place ≡ 0 → (r : ℕ) → r ≡ listing_rows + suc first → TreePass r vs rs₂ ms
         tree_found e r m =
-            let o = begins ws rl td tl k asked vs l s.path kept_chains first h rs₂ (base + q) corner place f e in
+            let o = begins e in
             let row₁ = s.path.rows 0 o in
-            let c = place_within ws rl td tl k asked vs l s.path kept_chains first h rs₂ (base + q) corner place f 0 (chain asked 0) (omega arith) (on_first rd k.outline asked l s.path o) (omega arith) in
+            let c = place_within 0 (chain asked 0) (omega arith) (on_first rd k.outline asked l s.path o) (omega arith) in
             passed_found (suc first) r vs rs₂ ms m
             record {
               some = o;
@@ -214,7 +308,7 @@ module _ (ws rl td tl : List ℕ) (k : Ready ws rl td tl) (asked rs ls : List �
             passed_through r vs ss ms (m ∙ last_row_lem)
             record {
               ends = tree_ends ws rl td tl k asked rs base q first b h fits kids us z x vs rs₁ p.ends rs₂ v ss j;
-              none = λ o c. e (zero_of (place_low ws rl td tl k asked vs l s.path kept_chains first h rs₂ (base + q) corner place f 0 (chain asked 0) (on_first rd k.outline asked l s.path o) c));
+              none = λ o c. e (zero_of (place_low 0 (chain asked 0) (on_first rd k.outline asked l s.path o) c));
               told = all_told;
               kept = all_kept;
             }

@@ -3,7 +3,7 @@ use Rattle.rows.proofs.Depths.{last_fits}
 use Rattle.matching.specs.Asked.{path_chains}
 use Rattle.matching.proofs.AskedLaws.{asked_more}
 use Rattle.matching.proofs.TreeJoins.{level_room, few, extend_fits, more_rows, z_few, chains_more, begins_below, z_room, close_fits, tree_joins}
-use Rattle.matching.proofs.TreePass.{bare_through, plain_through, plain_still, sought_below, below_found, below_fits, below_place, tree_found, tree_through}
+use Rattle.matching.proofs.TreePass.{bare_through, plain_through, plain_still, sought_below, below_found, below_fits, place_fits, tree_found, tree_through}
 use Prim.Native.Nat.{suc, ◌≤◌}
 use mathlib.Core.Path.{◌∙◌}
 use native.Mathlib.Omega.{arith}
@@ -225,7 +225,7 @@ tree_corners-overflow_cast-place t c =
     let ms₁ = c.forest_corners-end.new.log in
     let rs₂ = c.close_asked.new.room in
     let w = c.close_asked.ensures in
-    omega (arith, below_place a.shape.now a.labels.now a.depths.now a.names.now c.requires.ready.0 a.asked.now a.room.now a.log.now a.base a.q (path_chains a.asked.now) a.first c.requires.begins.0 c.requires.ready.1 c.requires.ready.2 c.requires.begins.1 c.requires.by_index m us z x vs rs₁ ms₁ p.1 rs₂ w c.first_place-place.result (rw (c.path_chains-k.ensures ∙ p.1.ends.path ∙ x.path) at c.first_place-place.ensures))
+    omega (arith, place_fits a.shape.now a.labels.now a.depths.now a.names.now c.requires.ready.0 a.asked.now a.room.now a.log.now a.base a.q (path_chains a.asked.now) a.first c.requires.begins.0 c.requires.ready.1 c.requires.ready.2 c.requires.begins.1 c.requires.by_index m us z x vs rs₁ ms₁ p.1 rs₂ w c.first_place-place.result (rw (c.path_chains-k.ensures ∙ p.1.ends.path ∙ x.path) at c.first_place-place.ensures))
 
 pub tree_corners-write_log-requires-2 : goal.tree_corners-write_log-requires-2
 tree_corners-write_log-requires-2 t c =
@@ -240,7 +240,7 @@ tree_corners-write_log-requires-2 t c =
     let ms₁ = c.forest_corners-end.new.log in
     let rs₂ = c.close_asked.new.room in
     let w = c.close_asked.ensures in
-    (omega (arith, c.requires.ready.1, c.requires.ready.0.few), omega (arith, below_place a.shape.now a.labels.now a.depths.now a.names.now c.requires.ready.0 a.asked.now a.room.now a.log.now a.base a.q (path_chains a.asked.now) a.first c.requires.begins.0 c.requires.ready.1 c.requires.ready.2 c.requires.begins.1 c.requires.by_index m us z x vs rs₁ ms₁ p.1 rs₂ w c.first_place-place.result (rw (c.path_chains-k.ensures ∙ p.1.ends.path ∙ x.path) at c.first_place-place.ensures)), p.1.kept.size)
+    (omega (arith, c.requires.ready.1, c.requires.ready.0.few), omega (arith, place_fits a.shape.now a.labels.now a.depths.now a.names.now c.requires.ready.0 a.asked.now a.room.now a.log.now a.base a.q (path_chains a.asked.now) a.first c.requires.begins.0 c.requires.ready.1 c.requires.ready.2 c.requires.begins.1 c.requires.by_index m us z x vs rs₁ ms₁ p.1 rs₂ w c.first_place-place.result (rw (c.path_chains-k.ensures ∙ p.1.ends.path ∙ x.path) at c.first_place-place.ensures)), p.1.kept.size)
 
 pub tree_corners-overflow_add-result : goal.tree_corners-overflow_add-result
 tree_corners-overflow_add-result t c = omega (arith, c.requires.ready.1, c.requires.ready.0.few)
