@@ -1,10 +1,7 @@
-use Rattle.std.proofs.Common.{◌+◌, refl, add-zero, arith}
+use Rattle.std.proofs.Common.{◌+◌, arith}
 use Rattle.parcels.proofs.Runs.{put_turn, put_stop}
 use Rattle.parcels.proofs.Sections.{put_section}
 use Rattle.parcels.proofs.fields.put_labels.Goals as goal
-
-pub loop-i-init : goal.loop-i-init
-loop-i-init c = (omega arith, omega (arith, c.put_u32.auto.bytes), refl, rw add-zero)
 
 pub loop-i-preserved : goal.loop-i-preserved
 loop-i-preserved c = let call = c.put_u32-in-loop-i in
