@@ -25,7 +25,7 @@ use Rattle.host.specs.Line.{spaced, line, included_word, absent_word, refused_wo
 use Rattle.host.specs.Outcome.{zeros, recipe_read, listing_read, outcome_of, RefusedAs, FromTables, FromListing, FromRecipe, Said}
 use Rattle.host.specs.Host.{line_of, images_of, answer_bytes, LineIs, Entered, Entry}
 use Rattle.host.specs.declared.outcome.Outcome.{Outcome}
-use Rattle.host.specs.declared.outcome.Outcome.TheVariants.{Included, Absent, Refused}
+use Rattle.host.specs.declared.outcome.Outcome.TheVariants.{Absent, Refused}
 use Rattle.host.proofs.Digits.{digits_width, spaced_width}
 use Rattle.host.proofs.Putting.{line_length}
 use Rattle.host.proofs.Places.{read_place, read_number, table_place, table_number}

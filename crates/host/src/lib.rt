@@ -1,5 +1,6 @@
 // What people touch: from an input's bytes, a recipe's parcel followed by a listing's, to its answer line.
 #![tactic(auto)]
+
 mod line;
 mod outcome;
 
