@@ -1,4 +1,4 @@
--- Demand 2: "Yes exactly if an ordered embedding exists (labels, ancestors, left_to_right order kept both ways). A yes carries the
+-- Demand 2: "Yes exactly if an ordered embedding exists (labels, ancestors, left-to-right order kept both ways). A yes carries the
 -- earliest-close map, a no the highest and widest left corner. Written parcels read back as the same rows; each table has one parcel."
 -- Assumes nothing.
 use Rattle.std.specs.Prelude.{◌≡◌, ◌↔◌, ◌⊎◌, List, ◌++◌, ℕ, ◌+◌, ◌*◌, ◌-◌, ◌≤◌, eqb, length, take, drop}

@@ -1,4 +1,4 @@
--- `line::put_digits` meets its contract. The measure is the number: the call is for its tenth. Assumes nothing.
+-- The measure is the number: the call is for its tenth.
 use Rattle.host.proofs.line.+put_digits.Given as goal
 
 abbrev pub decreases-put_digits : goal.decreases-put_digits

@@ -1,45 +1,22 @@
--- `outcome::of_listing` meets its contract: reading counts by the slices' lengths alone, and the rows read are the first slots. Assumes nothing.
-use mathlib.Core.Path.{sym}
-use native.Mathlib.Omega.{arith}
-use lib.Seq.{length-take-le}
+-- Reading counts by the slices' lengths alone, and the rows read are the first slots.
 use Rattle.rows.specs.Limits.{listing_rows}
 use Rattle.parcels.specs.declared.Limit.TheVariants.{Listing}
-use Rattle.host.proofs.Reading.{read_found, rows_fit, depths_taken, labels_taken}
+use Rattle.host.proofs.Reading.{read_found, depths_taken, labels_taken}
 use Rattle.host.proofs.outcome.of_listing.Goals as goal
 
-pub slice_bounds-of_tables-end : goal.slice_bounds-of_tables-end
-slice_bounds-of_tables-end c = let a = c.args in
-    let fits = rows_fit a.input.now a.start Listing a.listing_depths.now a.listing_labels.now c.read.ensures.answer _ _ c.in-Rows.is in
-    omega (arith, fits.0, c.read.auto.depths)
-
-pub slice_bounds-of_tables-end-in-Rows : goal.slice_bounds-of_tables-end-in-Rows
-slice_bounds-of_tables-end-in-Rows c = let a = c.args in
-    let fits = rows_fit a.input.now a.start Listing a.listing_depths.now a.listing_labels.now c.read.ensures.answer _ _ c.in-Rows.is in
-    sym (length-take-le _ _ (omega (arith, fits.0, c.read.auto.depths)))
-
-pub slice_bounds-of_tables-end-in-Rows-2 : goal.slice_bounds-of_tables-end-in-Rows-2
-slice_bounds-of_tables-end-in-Rows-2 c = let a = c.args in
-    let fits = rows_fit a.input.now a.start Listing a.listing_depths.now a.listing_labels.now c.read.ensures.answer _ _ c.in-Rows.is in
-    omega (arith, fits.1, c.read.auto.labels)
-
-pub slice_bounds-of_tables-end-in-Rows-3 : goal.slice_bounds-of_tables-end-in-Rows-3
-slice_bounds-of_tables-end-in-Rows-3 c = let a = c.args in
-    let fits = rows_fit a.input.now a.start Listing a.listing_depths.now a.listing_labels.now c.read.ensures.answer _ _ c.in-Rows.is in
-    sym (length-take-le _ _ (omega (arith, fits.1, c.read.auto.labels)))
-
 pub returns-in-Refused : goal.returns-in-Refused
-returns-in-Refused c = let a = c.args in
-    let found =
-    read_found a.input.now a.start Listing a.listing_depths.now a.listing_labels.now c.read.ensures.answer
-    listing_rows c.requires.listing_depths_len.0 c.requires.listing_depths_len.1 c.in-Refused.is in
+returns-in-Refused c =
+    let a = c.args in
+    let lent = c.requires.listing_depths_len in
+    let found = read_found a.input.now a.start Listing a.listing_depths.now a.listing_labels.now c.read.ensures.answer listing_rows lent.0 lent.1 c.in-Refused.is in
     rw found (c.refused_parcel.ensures, c.requires.map_value)
 
 pub returns-in-Rows : goal.returns-in-Rows
-returns-in-Rows c = let a = c.args in
+returns-in-Rows c =
+    let a = c.args in
+    let lent = c.requires.listing_depths_len in
     let e = c.in-Rows.is in
-    let found =
-    read_found a.input.now a.start Listing a.listing_depths.now a.listing_labels.now c.read.ensures.answer
-    listing_rows c.requires.listing_depths_len.0 c.requires.listing_depths_len.1 e in
+    let found = read_found a.input.now a.start Listing a.listing_depths.now a.listing_labels.now c.read.ensures.answer listing_rows lent.0 lent.1 e in
     let depths = depths_taken a.input.now a.start _ _ a.listing_depths.now c.read.new.depths e c.read.ensures.depths_after in
     let labels = labels_taken a.input.now a.start _ _ a.listing_labels.now c.read.new.labels e c.read.ensures.labels_after in
     rw found (rw (depths, labels) at c.of_tables.ensures)
