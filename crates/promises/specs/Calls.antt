@@ -19,10 +19,10 @@ pub record Reads (bytes : List ℕ) (start : ℕ) (limit : Limit) (depths labels
   pub depths_after : new_depths ≡ filled r (depths_in bytes start) depths
   pub labels_after : new_labels ≡ filled r (labels_in bytes start) labels
 
--- `write`: lent a table's two row slices and bytes to write, which are new-bytes afterwards
-pub record Writes (depths labels bytes : List ℕ) (r : WriteAnswer) (new-bytes : List ℕ) : Type 0 where
+-- `write`: lent a table's two row slices and bytes to write, which are new_bytes afterwards
+pub record Writes (depths labels bytes : List ℕ) (r : WriteAnswer) (new_bytes : List ℕ) : Type 0 where
   pub answer : r ≡ write_of depths labels bytes
-  pub bytes_after : new-bytes ≡ written depths labels bytes
+  pub bytes_after : new_bytes ≡ written depths labels bytes
 
 -- the strikes standing after a call that answered so: where it was accepted the new ones, else the old ones
 abbrev pub standing_now : journal.Answer → List ℕ → List ℕ → List ℕ

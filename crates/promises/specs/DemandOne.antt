@@ -94,8 +94,8 @@ pub record DemandOne : Type 0 where
       → ByTable (ReadTable bytes start limit depths labels) (of_read r)
       × (IsRefused (of_read r) → (new_depths ≡ depths) × (new_labels ≡ labels))
   -- the writer: refused exactly as 6, 7 and 17 say, and then the lent bytes are as they were
-  pub write : (depths labels bytes : List ℕ) (r : WriteAnswer) (new-bytes : List ℕ) → Writes depths labels bytes r new-bytes
-      → ByTable (WriteTable depths labels bytes) (of_write r) × (IsRefused (of_write r) → new-bytes ≡ bytes)
+  pub write : (depths labels bytes : List ℕ) (r : WriteAnswer) (new_bytes : List ℕ) → Writes depths labels bytes r new_bytes
+      → ByTable (WriteTable depths labels bytes) (of_write r) × (IsRefused (of_write r) → new_bytes ≡ bytes)
   -- strike: refused exactly as 21 to 26 say, and then table and journal are as they were
   pub strike : (s : Lent) (row : ℕ) (o : Outcome) → MeetsStrike s row o
       → ByTable (StrikeTable s row) (of_call o.answer)

@@ -92,16 +92,16 @@ pub record DemandTwo : Type 0 where
   -- the answer, whatever the inclusion call is lent
   pub answer : (rd rl td tl m : List ℕ) (r : Answer) (n : List ℕ) → Answers rd rl td tl m r n → Decides rd rl td tl m r n
   -- a written parcel has 20 + 6n bytes, stands in front of the lent bytes, and the bytes after it stay
-  pub written : (depths labels bytes : List ℕ) (size : ℕ) (new-bytes : List ℕ) → Writes depths labels bytes (Length size) new-bytes
-      → (size ≡ 20 + 6 * length labels) × (take size new-bytes ≡ parcel_of depths labels) × (drop size new-bytes ≡ drop size bytes)
+  pub written : (depths labels bytes : List ℕ) (size : ℕ) (new_bytes : List ℕ) → Writes depths labels bytes (Length size) new_bytes
+      → (size ≡ 20 + 6 * length labels) × (take size new_bytes ≡ parcel_of depths labels) × (drop size new_bytes ≡ drop size bytes)
   -- a written parcel, wherever it stands in an input, reads back as the same rows: at the listing's limit, and at the recipe's for up to 256 rows
-  pub reads_back : (depths labels bytes : List ℕ) (size : ℕ) (new-bytes : List ℕ) → Table depths labels → Writes depths labels bytes (Length size) new-bytes
+  pub reads_back : (depths labels bytes : List ℕ) (size : ℕ) (new_bytes : List ℕ) → Table depths labels → Writes depths labels bytes (Length size) new_bytes
       → (before behind old_depths old_labels : List ℕ) → length labels ≤ length old_depths → length labels ≤ length old_labels
       → (r : ReadAnswer) (new_depths new_labels : List ℕ)
-      → (Reads (before ++ (take size new-bytes ++ behind)) (length before) Listing old_depths old_labels r new_depths new_labels
+      → (Reads (before ++ (take size new_bytes ++ behind)) (length before) Listing old_depths old_labels r new_depths new_labels
       → GivesBack depths labels (length before) size r old_depths old_labels new_depths new_labels)
       × (length labels ≤ recipe_rows
-      → Reads (before ++ (take size new-bytes ++ behind)) (length before) Recipe old_depths old_labels r new_depths new_labels
+      → Reads (before ++ (take size new_bytes ++ behind)) (length before) Recipe old_depths old_labels r new_depths new_labels
       → GivesBack depths labels (length before) size r old_depths old_labels new_depths new_labels)
   -- each table has one parcel: bytes that were read as rows are the parcel of those rows, of length 20 + 6n
   pub one_parcel : (bytes : List ℕ) (start n next : ℕ) (depths labels : List ℕ) → ReadAs bytes start n next depths labels
