@@ -11,33 +11,35 @@ use lib.Dec.{ltb}
 use lib.ListN.{length, drop}
 use borrow.Author.Tests.{le-ltb}
 use Rattle.rows.specs.Limits.{recipe_rows}
-use Rattle.parcels.specs.declared.ReadAnswer.{ReadAnswer}
-use Rattle.parcels.specs.declared.ReadAnswer.TheVariants as reading
+use Rattle.std.specs.Prelude.{Result, Ok, Err}
+use Rattle.parcels.specs.declared.Refusal as parcel
+use Rattle.parcels.specs.declared.Rows.{Rows}
 use Rattle.matching.proofs.AnswerLaws.{answer_one}
 use Rattle.host.specs.Outcome.{zeros, recipe_read, listing_read, outcome_of, RefusedAs, FromTables, FromListing, FromRecipe, Said}
 use Rattle.host.specs.Host.{line_of, answer_bytes, LineIs, Entered, Entry}
 use Rattle.host.specs.declared.outcome.Outcome.{Outcome}
+use Rattle.host.specs.declared.outcome.Refusal.{Refusal}
 use Rattle.host.proofs.polashvek_answer.Kinds as entry
 use Rattle.host.proofs.polashvek_answer.Reads as entry-contract
 
 -- two outcomes with their maps
-module _ (o p : Outcome) (m k : List ℕ) where
-  refusal_one : (number place : ℕ) → RefusedAs number place o m → RefusedAs number place p k → (o ≡ p) × (m ≡ k)
-  refusal_one number place f g = (f.0 ∙ sym g.0, f.1 ∙ sym g.1)
+module _ (o p : Result Outcome Refusal) (m k : List ℕ) where
+  refusal_one : (x : Refusal) → RefusedAs x o m → RefusedAs x p k → (o ≡ p) × (m ≡ k)
+  refusal_one x f g = (f.0 ∙ sym g.0, f.1 ∙ sym g.1)
 
   tables_one : (rd rl td tl : List ℕ) (end : ℕ) (b : Bool) → FromTables rd rl td tl end b o m → FromTables rd rl td tl end b p k → (o ≡ p) × (m ≡ k)
-  tables_one rd rl td tl end true f g = refusal_one 15 end f g
+  tables_one rd rl td tl end true f g = refusal_one _ f g
   tables_one rd rl td tl end false f g =
       let same = answer_one rd rl td tl (zeros recipe_rows) f.0 g.0 m k f.1 g.1 in
       (f.2 ∙ ap (outcome_of (length rd)) same.0 ∙ sym g.2, same.1)
 
-  listing_one : (input rd rl : List ℕ) (start : ℕ) (a : ReadAnswer) → FromListing input rd rl start a o m → FromListing input rd rl start a p k → (o ≡ p) × (m ≡ k)
-  listing_one input rd rl start (reading.Refused x) f g = refusal_one _ _ f g
-  listing_one input rd rl start (reading.Rows n end) f g = tables_one rd rl _ _ end (ltb end (length input)) f g
+  listing_one : (input rd rl : List ℕ) (start : ℕ) (a : Result Rows parcel.Refusal) → FromListing input rd rl start a o m → FromListing input rd rl start a p k → (o ≡ p) × (m ≡ k)
+  listing_one input rd rl start (Err x) f g = refusal_one _ f g
+  listing_one input rd rl start (Ok rows) f g = tables_one rd rl _ _ rows.next (ltb rows.next (length input)) f g
 
-  recipe_one : (input : List ℕ) (a : ReadAnswer) → FromRecipe input a o m → FromRecipe input a p k → (o ≡ p) × (m ≡ k)
-  recipe_one input (reading.Refused x) f g = refusal_one _ _ f g
-  recipe_one input (reading.Rows n next) f g = listing_one input _ _ next (listing_read input next) f g
+  recipe_one : (input : List ℕ) (a : Result Rows parcel.Refusal) → FromRecipe input a o m → FromRecipe input a p k → (o ≡ p) × (m ≡ k)
+  recipe_one input (Err x) f g = refusal_one _ f g
+  recipe_one input (Ok rows) f g = listing_one input _ _ rows.next (listing_read input rows.next) f g
 
   -- one thing is said of an input, with one map
   pub said_one : (input : List ℕ) → Said input o m → Said input p k → (o ≡ p) × (m ≡ k)
@@ -47,7 +49,7 @@ module _ (o p : Outcome) (m k : List ℕ) where
 pub line_one : (input x y : List ℕ) → LineIs input x → LineIs input y → x ≡ y
 line_one input x y f g =
     let same = said_one f.outcome g.outcome f.map g.map input f.said g.said in
-    f.line ∙ ap (λ (o : Outcome). line_of o f.map) same.0 ∙ ap (λ (m : List ℕ). line_of g.outcome m) same.1 ∙ sym g.line
+    f.line ∙ ap (λ (o : Result Outcome Refusal). line_of o f.map) same.0 ∙ ap (λ (m : List ℕ). line_of g.outcome m) same.1 ∙ sym g.line
 
 -- a call of the C entry has one answer and leaves one buffer
 pub entry_one : (input before : List ℕ) (r s : ℕ) (x y : List ℕ) → Entry input before r x → Entry input before s y → (r ≡ s) × (x ≡ y)

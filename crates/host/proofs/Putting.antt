@@ -1,72 +1,98 @@
 -- Bytes put one after the other. Assumes nothing.
-use mathlib.Core.Path.{◌≡◌, refl, sym, ap, ◌∙◌}
-use mathlib.Core.List.{List, [], ◌∷◌, ◌++◌, append_assoc}
-use Prim.Native.Nat.{ℕ, suc, ◌+◌, ◌/◌, ◌%◌, ◌<◌, ◌≤◌}
+use mathlib.Core.Path.{◌≡◌, refl, sym, ap}
+use mathlib.Core.List.{List, [], ◌∷◌, ◌++◌, append_assoc, append-nil}
+use Prim.Native.Nat.{ℕ, suc, ◌+◌, ◌-◌, ◌/◌, ◌%◌, ◌<◌, ◌≤◌}
 use native.Mathlib.Numerals.{add-one}
 use native.Mathlib.Omega.{arith}
-use lib.ListN.{length, drop, get_or, set, length-append, drop_of_length-le}
-use lib.Seq.{drop-cons, sets, sets-eq}
-use Rattle.parcels.proofs.LittleEndian.{sets_append}
+use lib.ListN.{length, take, drop, get_or, set, take-append-drop, length-append, length-take, length-drop, drop_of_length-le}
+use lib.Seq.{take-suc, drop-cons, drop-drop, set-append_seam, take_all, take_at, drop_at}
+use borrow.Rule.Slice.PartMut.{put_mid}
 use Rattle.host.specs.Line.{digit, space, newline, digits, spaced, line}
 use Rattle.host.specs.Put.{Put}
-use Rattle.host.proofs.Digits.{digits_small, digits_large}
+use Rattle.host.proofs.Digits.{digits_small, digits_large, digits_more}
 
--- one byte
-pub put_one : (a : List ℕ) (i x : ℕ) → Put a i (x ∷ []) (set a i x) (i + 1)
-put_one a i x = record { stored = refl; place = refl }
+-- nothing is put yet
+pub put_none : (a : List ℕ) → Put a [] a 0
+put_none a = record { stored = refl; count = refl }
 
--- bytes, and then those behind them
-pub put_then : {a : List ℕ} {i : ℕ} {xs b : List ℕ} {j : ℕ} {ys c : List ℕ} {k : ℕ} → Put a i xs b j → Put b j ys c k → Put a i (xs ++ ys) c k
-put_then {a} {i} {xs} {b} {j} {ys} {c} {k} p q = record {
-  stored = q.stored ∙ rw (p.stored, p.place) (sym (sets_append xs ys a i));
-  place = q.place ∙ rw p.place (omega (arith, length-append xs ys));
-}
+-- one byte more
+pub put_byte : {a xs b : List ℕ} {i : ℕ} (v : ℕ) → Put a xs b i → length xs < length a → Put a (xs ++ (v ∷ [])) (set b i v) (i + 1)
+put_byte {a} {xs} {b} {i} v p h = record { stored = go; count = rw length-append (omega (arith, p.count)) }
+  where
+    n : ℕ
+    n = length xs
 
--- a number below ten, and any other: the digits of its tenth first, then its last
-pub put_small : (a : List ℕ) (i n : ℕ) → n < 10 → Put a i (digits n) (set a i (digit n)) (i + 1)
-put_small a i n h = rw (digits_small n h) (put_one a i (digit n))
+    go : set b i v ≡ (xs ++ (v ∷ [])) ++ drop (length (xs ++ (v ∷ []))) a
+    go = rw (p.count, p.stored, drop-cons a n 0 h, set-append_seam xs (get_or a n 0) (drop (suc n) a) v, append_assoc, length-append, add-one)
 
-pub put_large : {a b : List ℕ} {i j : ℕ} (n : ℕ) → 10 ≤ n → Put a i (digits (n / 10)) b j → Put a i (digits n) (set b j (digit (n % 10))) (j + 1)
-put_large {a} {b} {i} {j} n h p = rw (digits_large n h) (put_then p (put_one b j (digit (n % 10))))
+-- a number below ten is its one digit, any other has the digits of its tenth and then its last
+pub put_small : (a : List ℕ) (n : ℕ) → n < 10 → length (digits n) ≤ length a → Put a (digits n) (set a 0 (digit n)) 1
+put_small a n h room = let e = digits_small n h in rw e (put_byte (digit n) (put_none a) (omega (arith, ap length e)))
 
--- one turn of a loop that puts a word: the byte at i goes behind those before it
-pub word_turn : {whole : List ℕ} (a : List ℕ) (at i : ℕ) (word : List ℕ) → i < length word → sets a (at + i) (drop i word) ≡ whole
-    → sets (set a (at + i) (get_or word i 0)) (at + (i + 1)) (drop (i + 1) word) ≡ whole
-word_turn a at i word h inv = let e : at + (i + 1) ≡ suc (at + i) = omega arith in rw (e, add-one i) (rw (drop-cons word i 0 h) at inv)
+pub put_large : {a b : List ℕ} {i : ℕ} (n : ℕ) → 10 ≤ n → Put a (digits (n / 10)) b i → length (digits n) ≤ length a
+    → Put a (digits n) (set b i (digit (n % 10))) (i + 1)
+put_large n h p room = rw (digits_large n h) (put_byte (digit (n % 10)) p (omega (arith, digits_more n h)))
 
--- its end: the whole word is put
-pub word_stop : (a b : List ℕ) (at i : ℕ) (word : List ℕ) → i ≤ length word → length word ≤ i → sets b (at + i) (drop i word) ≡ sets a at word → Put a at word b (at + i)
-word_stop a b at i word l h inv = record { stored = rw (drop_of_length-le word h) at inv; place = omega arith }
+-- bytes, and then those at the front of what is left
+pub put_then : {a xs b ys m : List ℕ} {i j : ℕ} → Put a xs b i → Put (take (length b - i) (drop i b)) ys m j
+    → Put a (xs ++ ys) (put_mid i (length b - i) b m) (i + j)
+put_then {a} {xs} {b} {ys} {m} {i} {j} p q = record { stored = go; count = rw length-append (omega (arith, p.count, q.count)) }
+  where
+    rest : List ℕ
+    rest = drop (length xs) a
 
--- of the numbers from i on, the one at i comes first
-spaced_at : (ns : List ℕ) (i : ℕ) → i < length ns → spaced (drop i ns) ≡ (space ∷ digits (get_or ns i 0)) ++ spaced (drop (i + 1) ns)
+    room : length b - i ≡ length rest
+    room = omega (arith, ap length p.stored, length-append xs rest, p.count)
+
+    front : take i b ≡ xs
+    front = rw p.stored (take_at xs rest i (sym p.count))
+
+    behind : drop i b ≡ rest
+    behind = rw p.stored (drop_at xs rest i (sym p.count))
+
+    all : take (length b - i) rest ≡ rest
+    all = take_all (length b - i) rest (omega (arith, room))
+
+    none : drop (length b - i) rest ≡ []
+    none = drop_of_length-le rest (omega (arith, room))
+
+    put : m ≡ ys ++ drop (length ys) rest
+    put = rw (behind, all) at q.stored
+
+    go : put_mid i (length b - i) b m ≡ (xs ++ ys) ++ drop (length (xs ++ ys)) a
+    go = rw (front, behind, none, put, append-nil, drop-drop, length-append, append_assoc)
+
+-- what is left has room for what is left
+pub put_room : {a xs b : List ℕ} {i : ℕ} (k : ℕ) → Put a xs b i → length xs + k ≤ length a → k ≤ length (take (length b - i) (drop i b))
+put_room {a} {xs} {b} k p h =
+    simp (length-take, length-drop) (omega (arith, p.count, ap length p.stored, length-append xs (drop (length xs) a), length-drop (length xs) a))
+
+-- the next byte's place is within the buffer
+pub put_next : {a xs b : List ℕ} {i : ℕ} → Put a xs b i → length xs < length a → i < length b
+put_next {a} {xs} {b} p h = omega (arith, p.count, ap length p.stored, length-append xs (drop (length xs) a), length-drop (length xs) a)
+
+spaced_append : (ns ms : List ℕ) → spaced (ns ++ ms) ≡ spaced ns ++ spaced ms
 unfolding spaced
-spaced_at ns i h = rw (drop-cons ns i 0 h, add-one i)
+spaced_append [] ms = refl
+spaced_append (n ∷ ns) ms = rw (spaced_append ns ms, append_assoc)
 
-module _ (ns : List ℕ) (at end : ℕ) (whole : List ℕ) where
-  -- the numbers from i on, put from a place on, give the whole and end where it ends
-  pub record Left (a : List ℕ) (next i : ℕ) : Type 0 where
-    pub stored : sets a next (spaced (drop i ns)) ≡ whole
-    pub place : next + length (spaced (drop i ns)) ≡ end
+-- the number behind the first i comes next
+pub spaced_more : (ns : List ℕ) (i : ℕ) → i < length ns → spaced (take (i + 1) ns) ≡ spaced (take i ns) ++ (space ∷ digits (get_or ns i 0))
+unfolding spaced
+spaced_more ns i h = rw (add-one, take-suc ns i 0 h, spaced_append, append-nil)
 
-  -- there is room for the number at i
-  pub number_fits : (a : List ℕ) (next i : ℕ) → i < length ns → Left a next i → next + length (space ∷ digits (get_or ns i 0)) ≤ end
-  number_fits a next i h l = omega (arith, l.place, ap length (spaced_at ns i h), length-append (space ∷ digits (get_or ns i 0)) (spaced (drop (i + 1) ns)))
-
-  -- one turn of a loop that puts numbers: the number at i goes behind those before it
-  pub number_turn : (a b : List ℕ) (next place i : ℕ) → i < length ns → Left a next i → Put a next (space ∷ digits (get_or ns i 0)) b place → Left b place (i + 1)
-  number_turn a b next place i h l p =
-      let xs = space ∷ digits (get_or ns i 0) in
-      let e = spaced_at ns i h in
-      record {
-        stored = rw (p.stored, p.place) (sym (sets_append xs (spaced (drop (i + 1) ns)) a next) ∙ (rw e at l.stored));
-        place = omega (arith, p.place, l.place, ap length e, length-append xs (spaced (drop (i + 1) ns)));
-      }
-
-  -- its end: no number is left
-  pub number_stop : (a : List ℕ) (next i : ℕ) → length ns ≤ i → Left a next i → (a ≡ whole) × (next ≡ end)
-  unfolding spaced
-  number_stop a next i h l = let e = drop_of_length-le ns h in (rw e at l.stored, let p = rw e at l.place in omega arith)
+-- and takes no more room than is left
+pub spaced_fits : (ns : List ℕ) (i : ℕ) → i < length ns → length (spaced (take i ns)) + length (space ∷ digits (get_or ns i 0)) ≤ length (spaced ns)
+spaced_fits ns i h =
+    let next = space ∷ digits (get_or ns i 0) in
+    let e = spaced_append (take (i + 1) ns) (drop (i + 1) ns) in
+    omega (
+      arith,
+      ap length (rw take-append-drop at e),
+      length-append (spaced (take (i + 1) ns)) (spaced (drop (i + 1) ns)),
+      ap length (spaced_more ns i h),
+      length-append (spaced (take i ns)) next,
+    )
 
 module _ (word : List ℕ) (first second : ℕ) (images : List ℕ) where
   -- the parts of a line
@@ -79,9 +105,3 @@ module _ (word : List ℕ) (first second : ℕ) (images : List ℕ) where
   pub line_length : length (line word (first ∷ second ∷ images))
       ≡ length word + length (space ∷ digits first) + length (space ∷ digits second) + length (spaced images) + 1
   line_length = rw line_parts (simp length-append (omega arith))
-
--- bytes put at the front, with all later ones as they were
-pub put_front : {a b : List ℕ} {n : ℕ} (xs : List ℕ) → length xs ≤ length a → Put a 0 xs b n → (n ≡ length xs) × (b ≡ xs ++ drop (length xs) a)
-put_front {a} {b} {n} xs h p =
-    let e : 0 + length xs ≡ length xs = omega arith in
-    (p.place ∙ e, p.stored ∙ sets-eq xs a 0 (omega arith) ∙ ap (λ (k : ℕ). xs ++ drop k a) e)

@@ -1,20 +1,22 @@
 -- Document 01, "Program and C entry": the line of an input, and the C entry's answer with every byte of the buffer afterwards. Assumes nothing.
-use Rattle.std.specs.Prelude.{◌≡◌, Bool, true, false, List, [], ◌∷◌, ◌++◌, ℕ, ◌≤◌, ltb, length, take, drop}
+use Rattle.std.specs.Prelude.{◌≡◌, Bool, true, false, List, [], ◌∷◌, ◌++◌, ℕ, ◌≤◌, ltb, length, take, drop, Result, Ok, Err}
 use Rattle.host.specs.Line.{line, included_word, absent_word, refused_word}
+use Rattle.host.specs.Refusals.{said_number, said_place}
 use Rattle.host.specs.Outcome.{Said}
 use Rattle.host.specs.declared.outcome.Outcome.{Outcome}
-use Rattle.host.specs.declared.outcome.Outcome.TheVariants.{Included, Absent, Refused}
+use Rattle.host.specs.declared.outcome.Outcome.TheVariants.{Included, Absent}
+use Rattle.host.specs.declared.outcome.Refusal.{Refusal}
 
 -- an outcome's line: `included` with corner width, corner row and the images in recipe order; `absent` with corner width and corner
 -- row; `refused` with number and place
-abbrev pub line_of : Outcome → List ℕ → List ℕ
-line_of (Included corner n) map = line included_word (corner.width ∷ corner.row ∷ take n map)
-line_of (Absent corner) map = line absent_word (corner.width ∷ corner.row ∷ [])
-line_of (Refused number place) map = line refused_word (number ∷ place ∷ [])
+abbrev pub line_of : Result Outcome Refusal → List ℕ → List ℕ
+line_of (Ok (Included corner n)) map = line included_word (corner.width ∷ corner.row ∷ take n map)
+line_of (Ok (Absent corner)) map = line absent_word (corner.width ∷ corner.row ∷ [])
+line_of (Err refusal) map = line refused_word (said_number refusal ∷ said_place refusal ∷ [])
 
 -- the line of an input
 pub record LineIs (input bytes : List ℕ) : Type 0 where
-  pub outcome : Outcome
+  pub outcome : Result Outcome Refusal
   pub map : List ℕ
   pub said : Said input outcome map
   pub line : bytes ≡ line_of outcome map
@@ -24,12 +26,12 @@ abbrev pub answer_bytes : ℕ
 answer_bytes = 1295
 
 -- an outcome can be shown: its line fits the buffer, and the map has its images
-abbrev pub images_of : Outcome → ℕ
-images_of (Included corner n) = n
-images_of (Absent corner) = 0
-images_of (Refused number place) = 0
+abbrev pub images_of : Result Outcome Refusal → ℕ
+images_of (Ok (Included corner n)) = n
+images_of (Ok (Absent corner)) = 0
+images_of (Err refusal) = 0
 
-pub record Shown (outcome : Outcome) (map buffer : List ℕ) : Type 0 where
+pub record Shown (outcome : Result Outcome Refusal) (map buffer : List ℕ) : Type 0 where
   pub fits : length (line_of outcome map) ≤ length buffer
   pub images : images_of outcome ≤ length map
 

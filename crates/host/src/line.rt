@@ -1,60 +1,57 @@
-// The answer line as bytes: a word, numbers after single spaces, one newline. Each function puts its bytes from a place on, gives the
-// place after them and leaves all other bytes.
-ghost use Rattle.std.specs.Prelude.{◌∷◌, ◌+◌, ◌≤◌, length};
+// The answer line as bytes: a word, numbers after single spaces, one newline. Each function puts its bytes at the front of what it is
+// lent, gives how many and leaves all later bytes.
+//
+// By hand, since with `write!` the line is not proved (tried): std tells what was written where it gives `Ok`, and never that it does.
+ghost use Rattle.std.specs.Prelude.{◌∷◌, ◌≤◌, length};
 ghost use Rattle.host.specs.Line.{space, digits, spaced, line};
 ghost use Rattle.host.specs.Put.{Put};
 
 // Puts a word.
-fn put_word(answer: &mut [u8], at: usize, word: &[u8]) -> usize
-    requires { at + length word.now ≤ length answer.old }
-    ensures { Put answer.old at word.now answer.new result }
+fn put_word(answer: &mut [u8], word: &[u8]) -> usize
+    requires { length word.now ≤ length answer.old }
+    ensures { Put answer.old word.now answer.new result }
 {
-    let mut i = 0;
-    while i < word.len() {
-        answer[at + i] = word[i];
-        i += 1;
-    }
-    at + i
+    answer[..word.len()].copy_from_slice(word);
+    word.len()
 }
 
 // Puts the decimal digits of a number: those of its tenth first, then its last.
-fn put_digits(answer: &mut [u8], at: usize, n: usize) -> usize
-    requires { at + length (digits n) ≤ length answer.old }
-    ensures { Put answer.old at (digits n) answer.new result }
+// By hand, so that nothing more is trusted: std puts digits through `write!` alone.
+fn put_digits(answer: &mut [u8], n: usize) -> usize
+    requires { length (digits n) ≤ length answer.old }
+    ensures { Put answer.old (digits n) answer.new result }
 {
     if n < 10 {
-        answer[at] = 48 + n as u8;
-        return at + 1;
+        answer[0] = b'0' + n as u8;
+        return 1;
     }
-    let last = put_digits(answer, at, n / 10);
-    answer[last] = 48 + (n % 10) as u8;
+    let last = put_digits(answer, n / 10);
+    answer[last] = b'0' + (n % 10) as u8;
     last + 1
 }
 
 // Puts a single space and the digits of a number.
-fn put_number(answer: &mut [u8], at: usize, n: usize) -> usize
-    requires { at + length (space ∷ digits n) ≤ length answer.old }
-    ensures { Put answer.old at (space ∷ digits n) answer.new result }
+fn put_number(answer: &mut [u8], n: usize) -> usize
+    requires { length (space ∷ digits n) ≤ length answer.old }
+    ensures { Put answer.old (space ∷ digits n) answer.new result }
 {
-    answer[at] = b' ';
-    put_digits(answer, at + 1, n)
+    answer[0] = b' ';
+    1 + put_digits(&mut answer[1..], n)
 }
 
 // Puts the images of a map, each after a single space.
-fn put_images(answer: &mut [u8], at: usize, images: &[u16]) -> usize
-    requires { at + length (spaced images.now) ≤ length answer.old }
-    ensures { Put answer.old at (spaced images.now) answer.new result }
+fn put_images(answer: &mut [u8], images: &[u16]) -> usize
+    requires { length (spaced images.now) ≤ length answer.old }
+    ensures { Put answer.old (spaced images.now) answer.new result }
 {
-    let mut next = at;
-    let mut i = 0;
-    while i < images.len() {
-        next = put_number(answer, next, images[i] as usize);
-        i += 1;
+    let mut count = 0;
+    for image in images {
+        count += put_number(&mut answer[count..], *image as usize);
     }
-    next
+    count
 }
 
-// Puts a whole line at the front: a word, two numbers, images where there are some, one newline. Gives its length.
+// Puts a whole line: a word, two numbers, images where there are some, one newline.
 pub(crate) fn put_line(
     answer: &mut [u8],
     word: &[u8],
@@ -63,12 +60,12 @@ pub(crate) fn put_line(
     images: &[u16],
 ) -> usize
     requires { length (line word.now (first ∷ second ∷ images.now)) ≤ length answer.old }
-    ensures { Put answer.old 0 (line word.now (first ∷ second ∷ images.now)) answer.new result }
+    ensures { Put answer.old (line word.now (first ∷ second ∷ images.now)) answer.new result }
 {
-    let after_word = put_word(answer, 0, word);
-    let after_first = put_number(answer, after_word, first);
-    let after_second = put_number(answer, after_first, second);
-    let end = put_images(answer, after_second, images);
-    answer[end] = b'\n';
-    end + 1
+    let mut count = put_word(answer, word);
+    count += put_number(&mut answer[count..], first);
+    count += put_number(&mut answer[count..], second);
+    count += put_images(&mut answer[count..], images);
+    answer[count] = b'\n';
+    count + 1
 }

@@ -13,7 +13,7 @@ fn code_of(corner: Corner) -> u64
     65536 * (corner.width as u64) + corner.row as u64
 }
 
-// The answer as one number: an odd one on a yes, an even one on a no, 2 to the 40th for a refusal.
+// The answer as one number, for C gets one: an odd one on a yes, an even one on a no, 2 to the 40th for a refusal.
 #[unsafe(no_mangle)]
 pub extern "C" fn inclusion_bench_include(
     listing_depths: &[u16],
@@ -31,8 +31,8 @@ pub extern "C" fn inclusion_bench_include(
         recipe_labels,
         map,
     ) {
-        Answer::Included(corner) => 2 * code_of(corner) + 1,
-        Answer::Absent(corner) => 2 * code_of(corner),
-        Answer::Refused(_) => 1099511627776,
+        Ok(Answer::Included(corner)) => 2 * code_of(corner) + 1,
+        Ok(Answer::Absent(corner)) => 2 * code_of(corner),
+        Err(_) => 1099511627776,
     }
 }

@@ -57,12 +57,12 @@ module _ (s : Lent) (r b : ℕ) (k : Strikable s r) (e : b ≡ descendants (used
   pub below_fits : r + b ≤ s.rows
   below_fits = omega (arith, last_fits (used_depths s) r there, used)
 
-  pub below_deep : (j : ℕ) → j < b → 1 ≤ get_or s.depths (r + j) 0
-  below_deep j h =
+  pub below_deep : (i : ℕ) → r ≤ i → i < r + b → 1 ≤ get_or s.depths i 0
+  below_deep i l h =
       omega (
         arith,
-        inside_deeper (used_depths s) r (suc (r + j)) k.first (omega arith) (omega arith),
-        get_or-take s.rows s.depths (r + j) 0 (omega (arith, below_fits)),
+        inside_deeper (used_depths s) r (suc i) k.first (omega arith) (omega arith),
+        get_or-take s.rows s.depths i 0 (omega (arith, below_fits)),
       )
 
   -- the words of the entry

@@ -2,15 +2,14 @@
 use mathlib.Core.Path.{◌≡◌, refl}
 use mathlib.Core.List.{List, [], ◌∷◌}
 use Prim.Native.Nat.{ℕ}
+use Rattle.std.specs.Prelude.{Ok, Err}
 use Rattle.rows.specs.Rows.{depth, descendants}
 use Rattle.rows.specs.FirstBad.{check_from}
 use Rattle.journal.specs.declared.Refusal.TheVariants.{NeverStruck}
-use Rattle.journal.specs.declared.Answer.{Answer}
-use Rattle.journal.specs.declared.Answer.TheVariants.{Done, Refused}
 use Rattle.journal.specs.Strike.{strike_depths}
 use Rattle.journal.specs.Entry.{may_return}
 use Rattle.journal.specs.Lent.{Lent, lent}
-use Rattle.journal.specs.Refusals.{journal_verdict, lent_verdict, strike_verdict, strike_answer, after_strike, undo_verdict, undo_answer, after_undo}
+use Rattle.journal.specs.Refusals.{Answer, journal_verdict, lent_verdict, strike_verdict, strike_answer, after_strike, undo_verdict, undo_answer, after_undo}
 use Rattle.journal.specs.Session.{Call, strike_row, undo_last}
 
 -- what is lent, a call, its answer, and what it leaves
@@ -42,17 +41,17 @@ wrong d n = lent (0 ∷ 1 ∷ 0 ∷ []) (10 ∷ 20 ∷ 0 ∷ []) 2 (2 ∷ 30 ∷
 
 abbrev examples : List Example
 examples =
-    record { before = chain; call = strike_row 2; answer = Done 2 1; after = shorter }
+    record { before = chain; call = strike_row 2; answer = Ok (record { rows = 2; entries = 1 }); after = shorter }
     ∷ record {
       before = chain;
       call = strike_row 1;
-      answer = Done 2 1;
+      answer = Ok (record { rows = 2; entries = 1 });
       after = lent (0 ∷ 1 ∷ 0 ∷ []) (30 ∷ 20 ∷ 0 ∷ []) 2 (1 ∷ 10 ∷ 0 ∷ 2 ∷ []) 1;
     }
-    ∷ record { before = shorter; call = undo_last; answer = Done 3 0; after = chain }
-    ∷ record { before = wrong 2 0; call = undo_last; answer = Refused NeverStruck; after = wrong 2 0 }
-    ∷ record { before = wrong 0 0; call = undo_last; answer = Refused NeverStruck; after = wrong 0 0 }
-    ∷ record { before = wrong 1 2; call = undo_last; answer = Refused NeverStruck; after = wrong 1 2 }
+    ∷ record { before = shorter; call = undo_last; answer = Ok (record { rows = 3; entries = 0 }); after = chain }
+    ∷ record { before = wrong 2 0; call = undo_last; answer = Err NeverStruck; after = wrong 2 0 }
+    ∷ record { before = wrong 0 0; call = undo_last; answer = Err NeverStruck; after = wrong 0 0 }
+    ∷ record { before = wrong 1 2; call = undo_last; answer = Err NeverStruck; after = wrong 1 2 }
     ∷ []
 
 pub s1_to_s3 : AllShown examples

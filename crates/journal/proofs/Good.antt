@@ -1,8 +1,7 @@
 -- Well-formed tables, row by row from the first. Assumes nothing.
 use mathlib.Core.Path.{◌≡◌, refl}
 use mathlib.Core.List.{List, [], ◌∷◌, ◌++◌}
-use Prim.Native.Nat.{ℕ, zero, suc, ◌+◌, ◌-◌, ◌≤◌, ◌<◌}
-use native.Mathlib.Numerals.{add-one}
+use Prim.Native.Nat.{ℕ, zero, suc, ◌≤◌, ◌<◌}
 use native.Mathlib.Omega.{arith}
 use lib.ListN.{length, get_or, take, drop}
 use Rattle.rows.specs.Limits.{deepest}
@@ -69,11 +68,6 @@ good_rest m zero ds xs h g = g
 good_rest m (suc i) [] xs h g = absurd (omega arith)
 good_rest m (suc i) (e ∷ ds) xs h g = good_rest (suc e) i ds xs (omega arith) g.2
 
--- the same by an index: of a later row, and of every depth
-pub most_later : (ds : List ℕ) (r : ℕ) → 2 ≤ r → get_or ds (r - 2) 0 + 1 ≡ most_at ds r
-most_later ds zero h = absurd (omega arith)
-most_later ds (suc zero) h = absurd (omega arith)
-most_later ds (suc (suc i)) h = let z : suc (suc i) - 2 ≡ i = omega arith in rw (z, add-one)
-
+-- the same by an index, of every depth
 pub depth_low : (ds : List ℕ) → WellFormed ds → (i : ℕ) → i < length ds → get_or ds i 0 ≤ deepest
 depth_low ds w i h = w.shallow (suc i) (omega arith)

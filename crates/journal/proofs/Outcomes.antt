@@ -2,11 +2,9 @@
 use mathlib.Core.Path.{◌≡◌, sym, ap, ◌∙◌}
 use mathlib.Core.List.{List}
 use Prim.Native.Nat.{ℕ}
-use Rattle.journal.specs.declared.Answer.{Answer}
-use Rattle.journal.specs.declared.Verdict.{Verdict}
-use Rattle.journal.specs.declared.Verdict.TheVariants.{Allowed, Denied}
+use Rattle.std.specs.Prelude.{Ok, Err}
 use Rattle.journal.specs.Lent.{Lent, lent, struck, undone}
-use Rattle.journal.specs.Refusals.{answered, settled, strike_verdict, after_strike, undo_verdict, after_undo}
+use Rattle.journal.specs.Refusals.{Verdict, Answer, answered, settled, strike_verdict, after_strike, undo_verdict, after_undo}
 use Rattle.journal.specs.Outcome.{Outcome, Meets, MeetsStrike, MeetsUndo, rows_now, entries_now, taken_over}
 
 one_outcome : {a : Answer} {t : Lent} (o p : Outcome) → Meets o a t → Meets p a t → o ≡ p
@@ -27,10 +25,10 @@ same_lent p q i j k = cc
 
 -- a session's next state is what the caller holds after a call that meets its contract
 taken : (v : Verdict) (after before : Lent) (o : Outcome) → Meets o (answered v after) (settled v after before) → taken_over before o ≡ settled v after before
-taken Allowed after before o m =
+taken (Ok u) after before o m =
     same_lent m.depths m.labels (ap (λ (x : Answer). rows_now x before.rows) m.answer) m.journal
     (ap (λ (x : Answer). entries_now x before.entries) m.answer)
-taken (Denied why) after before o m =
+taken (Err why) after before o m =
     same_lent m.depths m.labels (ap (λ (x : Answer). rows_now x before.rows) m.answer) m.journal
     (ap (λ (x : Answer). entries_now x before.entries) m.answer)
 

@@ -11,7 +11,7 @@ use Rattle.rows.specs.Rows.{Row, depth}
 use Rattle.rows.proofs.Depths.{last_fits}
 use Rattle.journal.specs.Strike.{raise, undo_depths, put_back}
 use Rattle.journal.specs.Entry.{Entry}
-use Rattle.journal.specs.Lent.{Lent, used_depths, used_labels, newest, undone}
+use Rattle.journal.specs.Lent.{Lent, used_depths, newest, undone}
 use Rattle.journal.specs.Refusals.{Returnable}
 use Rattle.journal.proofs.Good.{depth_low}
 use Rattle.journal.proofs.Shifts.{changed}
@@ -76,17 +76,14 @@ module _ (s : Lent) (e : Entry) (k : Returnable s) (t : e ≡ newest s) where
   pub rows_fit : e.row - 1 + e.below ≤ s.rows
   rows_fit = omega (arith, last_fits after e.row there, fit.below, size, row_first)
 
-  pub rows_low : (j : ℕ) → j < e.below → get_or s.depths (e.row - 1 + j) 0 ≤ 62
-  rows_low j h =
-      let i : e.row - 1 + j < s.rows = omega (arith, rows_fit) in
-      let v : get_or after (suc (e.row - 1 + j)) 0 ≡ suc (get_or (used_depths s) (e.row - 1 + j) 0) =
-      ap (λ (r : ℕ). get_or (undo_depths (used_depths s) r e.depth e.below) (suc (e.row - 1 + j)) 0) (sym z)
-      ∙ raised_at (used_depths s) (e.row - 1) e.depth e.below j h (omega (arith, used)) in
-      omega (
-        arith,
-        depth_low after fit.well (suc (e.row - 1 + j)) (omega (arith, size)),
-        get_or-take s.rows s.depths (e.row - 1 + j) 0 i,
-      )
+  pub rows_low : (i : ℕ) → e.row - 1 ≤ i → i < e.row - 1 + e.below → get_or s.depths i 0 ≤ 62
+  rows_low i l h =
+      let j : e.row - 1 + (i - (e.row - 1)) ≡ i = omega arith in
+      let v : get_or after (suc i) 0 ≡ suc (get_or (used_depths s) i 0) =
+      ap₂ (λ (r j : ℕ). get_or (undo_depths (used_depths s) r e.depth e.below) (suc j) 0) (sym z) (sym j)
+      ∙ raised_at (used_depths s) (e.row - 1) e.depth e.below (i - (e.row - 1)) (omega arith) (omega (arith, used, rows_fit))
+      ∙ ap (λ (j : ℕ). suc (get_or (used_depths s) j 0)) j in
+      omega (arith, depth_low after fit.well (suc i) (omega (arith, size, rows_fit)), get_or-take s.rows s.depths i 0 (omega (arith, rows_fit)))
 
   -- the depths, once the rows have risen and the gap is opened
   pub depths_undone : (xs ys : List ℕ) → xs ≡ changed suc (e.row - 1) e.below s.depths
@@ -101,6 +98,3 @@ module _ (s : Lent) (e : Entry) (k : Returnable s) (t : e ≡ newest s) where
       ∙ put_changed (used_depths s) e.row e.depth e.below row_first (omega (arith, row_last, used)))
       (drop_changed suc (e.row - 1) (suc s.rows) e.below s.depths h f)
       ∙ ap (λ (x : Entry). undo_depths (used_depths s) x.row x.depth x.below ++ drop (suc s.rows) s.depths) t
-
-  pub labels_undone : (ys : List ℕ) → ys ≡ put_back (used_labels s) e.row e.label ++ drop (suc s.rows) s.labels → ys ≡ (undone s).labels
-  labels_undone ys q = q ∙ ap (λ (x : Entry). put_back (used_labels s) x.row x.label ++ drop (suc s.rows) s.labels) t

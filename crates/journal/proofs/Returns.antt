@@ -9,13 +9,14 @@ use native.Mathlib.Decide.{dec_lt}
 use lib.ListN.{length, drop}
 use borrow.Author.Tests.{leb-true, eqb-true, le-leb, eq-eqb}
 use Rattle.rows.specs.Rows.{at, Row, depth, deeper, descendants, WellFormed}
-use Rattle.rows.specs.declared.RowCheck.{RowCheck}
-use Rattle.rows.specs.declared.RowCheck.TheVariants.{Fine, BadStep, TooDeep}
+use Rattle.std.specs.Prelude.{Result, Ok, Err}
+use Rattle.rows.specs.declared.BadRow.{BadRow}
 use Rattle.rows.proofs.Deeper.{deeper_lt, deeper_ge}
 use Rattle.rows.proofs.FirstBad.{fine_iff}
 use Rattle.rows.proofs.Tests.{both_true}
 use Rattle.journal.specs.Strike.{lower, raise, strike_depths, without, undo_depths, put_back}
 use Rattle.journal.specs.Entry.{Entry, Struck, Undoable, is_fine, may_return}
+use Rattle.journal.proofs.Shifts.{length_first}
 use Rattle.journal.proofs.Strikes.{length_strike}
 
 -- what sinks may rise again, and back
@@ -85,20 +86,14 @@ module _ (a : ℕ) where
   length_put (x ∷ xs) (suc i) h = ap suc (length_put xs i (omega arith))
 
 pub length_undo : (ds : List ℕ) (i d n : ℕ) → i ≤ length ds → length (undo_depths ds (suc i) d n) ≡ suc (length ds)
-length_undo ds zero d n h = ap suc (length_raise n ds)
-  where
-    length_raise : (n : ℕ) (ds : List ℕ) → length (raise n ds) ≡ length ds
-    length_raise zero ds = refl
-    length_raise (suc n) [] = refl
-    length_raise (suc n) (d ∷ ds) = ap suc (length_raise n ds)
+length_undo ds zero d n h = ap suc (length_first suc n ds)
 length_undo [] (suc i) d n h = absurd (omega arith)
 length_undo (e ∷ ds) (suc i) d n h = ap suc (length_undo ds i d n (omega arith))
 
 -- what the test says
-fine_test : (k : RowCheck) → (is_fine k ≡ true) ↔ (k ≡ Fine)
-fine_test Fine = (λ e. refl, λ e. refl)
-fine_test (BadStep v) = (λ e. cc, λ e. cc)
-fine_test (TooDeep v) = (λ e. cc, λ e. cc)
+fine_test : (k : Result (Unit {0}) BadRow) → (is_fine k ≡ true) ↔ (k ≡ Ok tt)
+fine_test (Ok u) = (λ e. refl, λ e. refl)
+fine_test (Err bad) = (λ e. cc, λ e. cc)
 
 pub record Fits (ds : List ℕ) (r d n : ℕ) : Type 0 where
   pub first : 1 ≤ r

@@ -1,14 +1,14 @@
 -- Number 29's test row by row, as code makes it. Assumes nothing.
-use mathlib.Core.Path.{◌≡◌, refl, sym, ap, ap₂, ◌∙◌}
-use mathlib.Core.Bool.{true, false, ◌&&◌}
+use mathlib.Core.Path.{◌≡◌, refl, sym, ap, ◌∙◌}
+use mathlib.Core.Bool.{Bool, true, false, ◌&&◌, ◌||◌}
 use mathlib.Core.List.{List, [], ◌∷◌}
 use Prim.Native.Nat.{ℕ, zero, suc, ◌+◌, ◌-◌, ◌≤◌, ◌<◌}
 use native.Mathlib.Omega.{arith}
 use native.Mathlib.Decide.{dec_lt}
-use lib.Dec.{leb, ltb}
-use lib.ListN.{length, get_or, drop, drop_of_length-le}
-use lib.Seq.{drop-cons}
-use borrow.Author.Tests.{leb-true, ltb-true, le-leb, lt-ltb, lt-leb, le-ltb}
+use lib.Dec.{leb, ltb, eqb}
+use lib.ListN.{length, length-take, get_or, take, drop, drop_of_length-le}
+use lib.Seq.{drop-cons, get_or-take, length-take-le}
+use borrow.Author.Tests.{leb-true, ltb-true, le-leb, lt-ltb, eq-eqb, ne_eqb}
 use Rattle.rows.specs.Limits.{deepest}
 use Rattle.rows.specs.Rows.{deeper, WellFormed}
 use Rattle.rows.specs.FirstBad.{most_at}
@@ -27,7 +27,7 @@ rise_to : (m d n x : ℕ) (ds : List ℕ) → d ≤ m → Good x ds → may_rise
 unfolding may_rise
 rise_to m d zero x [] l g t = (tt, refl)
 rise_to m d zero x (e ∷ ds) l g t = let k = leb-true e d t in ((omega arith, g.1, g.2), deeper_ge d e ds k)
-rise_to m d (suc n) x [] l g t = let z : ◌≡◌ {A = ℕ} 0 1 = cc in absurd (omega arith)
+rise_to m d (suc n) x [] l g t = cc
 rise_to m d (suc n) x (e ∷ ds) l g t =
     let a = (both_true _ _).0 t in
     let b = (both_true _ _).0 a.1 in
@@ -84,62 +84,52 @@ return_test ds i d n w h =
       below = descendants_undo ds i d n h ∙ k.1;
     }))
 
--- the branches of number 29's test
-module _ (ds : List ℕ) (r d n : ℕ) where
-  pub return_first : r < 1 → may_return ds r d n ≡ false
-  unfolding may_return
-  return_first h = rw (lt-leb 1 r h)
+-- the test of an entry whose row is within reach
+pub return_here : (ds : List ℕ) (r d n : ℕ) → WellFormed ds → 1 ≤ r → r - 1 ≤ length ds
+    → may_return ds r d n ≡ (leb d (most_at ds r) && (leb d deepest && may_rise (suc d) d n (drop (r - 1) ds)))
+return_here ds r d n w a h = let z : suc (r - 1) ≡ r = omega arith in rw z at (return_test ds (r - 1) d n w h)
 
-  pub return_last : 1 ≤ r → length ds < r - 1 → may_return ds r d n ≡ false
-  unfolding may_return
-  return_last a h = rw (le-leb 1 r a, lt-leb r (suc (length ds)) (omega arith))
+-- the test of the first b rows: there are too few, row i is the next, or none is left
+pub rise_short : (ds : List ℕ) (m d b : ℕ) → length ds < b → may_rise m d b ds ≡ false
+unfolding may_rise
+rise_short ds m d zero h = absurd (omega arith)
+rise_short [] m d (suc b) h = refl
+rise_short (e ∷ ds) m d (suc b) h = go (leb d e) (ltb e m) (ltb e deepest) (rise_short ds (suc (suc e)) d b (omega arith))
+  where
+    go : (x y z : Bool) {w : Bool} → w ≡ false → (x && (y && (z && w))) ≡ false
+    go true true true r = r
+    go true true false r = refl
+    go true false z r = refl
+    go false y z r = refl
 
-  module _ (w : WellFormed ds) (a : 1 ≤ r) (h : r - 1 ≤ length ds) where
-    here : may_return ds r d n ≡ (leb d (most_at ds r) && (leb d deepest && may_rise (suc d) d n (drop (r - 1) ds)))
-    here = let z : suc (r - 1) ≡ r = omega arith in rw z at (return_test ds (r - 1) d n w h)
+pub rise_turn : (ds : List ℕ) (i m d b : ℕ) → i < length (take b ds)
+    → may_rise m d (b - i) (drop i ds)
+    ≡ (leb d (get_or (take b ds) i 0)
+    && (ltb (get_or (take b ds) i 0) m
+    && (ltb (get_or (take b ds) i 0) deepest && may_rise (get_or (take b ds) i 0 + 2) d (b - (i + 1)) (drop (i + 1) ds))))
+unfolding may_rise
+rise_turn ds i m d b h =
+    let l : i < length ds = omega (arith, length-take b ds) in
+    let k : i < b = omega (arith, length-take b ds) in
+    let v : get_or (take b ds) i 0 ≡ get_or ds i 0 = get_or-take b ds i 0 k in
+    let t : get_or ds i 0 + 2 ≡ suc (suc (get_or ds i 0)) = omega arith in
+    let u : i + 1 ≡ suc i = omega arith in
+    let s : b - i ≡ suc (b - suc i) = omega arith in
+    rw (v, t, u, s, drop-cons ds i 0 l, may_rise)
 
-    pub return_steep : most_at ds r < d → may_return ds r d n ≡ false
-    return_steep p = here ∙ (rw (lt-leb d (most_at ds r) p))
+pub rise_last : (ds : List ℕ) (i m d b : ℕ) → b ≤ length ds → i ≡ length (take b ds)
+    → may_rise m d (b - i) (drop i ds) ≡ (eqb (length ds) b || leb (get_or ds b 0) d)
+unfolding may_rise
+rise_last ds i m d b h e = go (dec_lt b (length ds))
+  where
+    j : i ≡ b
+    j = e ∙ length-take-le b ds h
 
-    pub return_deep : d ≤ most_at ds r → deepest < d → may_return ds r d n ≡ false
-    return_deep p q = here ∙ (rw (le-leb d (most_at ds r) p, lt-leb d deepest q))
+    z : b - b ≡ 0
+    z = omega arith
 
-    pub return_rise : d ≤ most_at ds r → d ≤ deepest → may_return ds r d n ≡ may_rise (suc d) d n (drop (r - 1) ds)
-    return_rise p q = here ∙ (rw (le-leb d (most_at ds r) p, le-leb d deepest q))
-
--- the branches of the test from index i on: a row is left to rise, or none
-module _ (ds : List ℕ) (i m d n : ℕ) where
-  pub rise_none : 0 < n → length ds ≤ i → may_rise m d n (drop i ds) ≡ false
-  unfolding may_rise
-  rise_none o h = let s : n ≡ suc (n - 1) = omega arith in rw (drop_of_length-le ds h, s, may_rise)
-
-  pub rise_shallow : 0 < n → i < length ds → get_or ds i 0 < d → may_rise m d n (drop i ds) ≡ false
-  unfolding may_rise
-  rise_shallow o h p = let s : n ≡ suc (n - 1) = omega arith in rw (drop-cons ds i 0 h, s, lt-leb d _ p, may_rise)
-
-  pub rise_steep : 0 < n → i < length ds → d ≤ get_or ds i 0 → m ≤ get_or ds i 0 → may_rise m d n (drop i ds) ≡ false
-  unfolding may_rise
-  rise_steep o h p q = let s : n ≡ suc (n - 1) = omega arith in rw (drop-cons ds i 0 h, s, le-leb d _ p, le-ltb _ m q, may_rise)
-
-  pub rise_deep : 0 < n → i < length ds → d ≤ get_or ds i 0 → get_or ds i 0 < m → deepest ≤ get_or ds i 0 → may_rise m d n (drop i ds) ≡ false
-  unfolding may_rise
-  rise_deep o h p q r = let s : n ≡ suc (n - 1) = omega arith in rw (drop-cons ds i 0 h, s, le-leb d _ p, lt-ltb _ m q, le-ltb _ deepest r, may_rise)
-
-  pub rise_one : 0 < n → i < length ds → d ≤ get_or ds i 0 → get_or ds i 0 < m → get_or ds i 0 < deepest
-      → may_rise m d n (drop i ds) ≡ may_rise (get_or ds i 0 + 2) d (n - 1) (drop (i + 1) ds)
-  unfolding may_rise
-  rise_one o h p q r =
-      let s : n ≡ suc (n - 1) = omega arith in
-      let t : get_or ds i 0 + 2 ≡ suc (suc (get_or ds i 0)) = omega arith in
-      let u : i + 1 ≡ suc i = omega arith in
-      ap (λ (x : ℕ). may_rise m d x (drop i ds)) s
-      ∙ (rw (drop-cons ds i 0 h, le-leb d _ p, lt-ltb _ m q, lt-ltb _ deepest r, may_rise))
-      ∙ sym (ap₂ (λ (x y : ℕ). may_rise x d (n - 1) (drop y ds)) t u)
-
-  pub rise_end : n ≡ 0 → length ds ≤ i → may_rise m d n (drop i ds) ≡ true
-  unfolding may_rise
-  rise_end o h = rw (o, drop_of_length-le ds h, may_rise)
-
-  pub rise_behind : n ≡ 0 → i < length ds → may_rise m d n (drop i ds) ≡ leb (get_or ds i 0) d
-  unfolding may_rise
-  rise_behind o h = rw (o, drop-cons ds i 0 h, may_rise)
+    go : Dec (b < length ds) → may_rise m d (b - i) (drop i ds) ≡ (eqb (length ds) b || leb (get_or ds b 0) d)
+    go (yes l) = rw (j, z, drop-cons ds b 0 l, ne_eqb (length ds) b (λ q. omega arith), may_rise)
+    go (no l) =
+        let q : length ds ≡ b = omega arith in
+        let k : length ds ≤ b = omega arith in rw (j, z, drop_of_length-le ds k, eq-eqb (length ds) b q, may_rise)

@@ -5,17 +5,16 @@ use Prim.Native.Nat.{ℕ, suc, ◌+◌, ◌-◌, ◌*◌, ◌≤◌}
 use native.Mathlib.Omega.{arith}
 use lib.ListN.{length, take, drop, replicate, length-append, length-take, length-drop, length-replicate, take-append-drop}
 use lib.Seq.{length-take-le, take_at, drop_at, drop-drop, take-take}
+use Rattle.std.specs.Prelude.{Ok, Err}
 use Rattle.rows.specs.Rows.{Row}
-use Rattle.journal.specs.declared.Verdict.{Verdict}
-use Rattle.journal.specs.declared.Verdict.TheVariants.{Allowed, Denied}
 use Rattle.journal.specs.Strike.{strike_depths, without, undo_depths, put_back}
 use Rattle.journal.specs.Entry.{Entry, entry_of, entry_words, words, no_words, room, written, may_return}
 use Rattle.journal.specs.Lent.{Lent, lent, used_depths, used_labels, newest, struck, undone}
-use Rattle.journal.specs.Refusals.{strike_verdict, undo_verdict, settled, after_strike, after_undo, Sound, Strikable, Returnable}
+use Rattle.journal.specs.Refusals.{Verdict, strike_verdict, undo_verdict, settled, after_strike, after_undo, Sound, Strikable, Returnable}
 use Rattle.journal.specs.Session.{Call, strike_row, undo_last, run, accepted, older, standing, replay, left, entries_of, Named, Stands, OnlyStrikes, undos, strikes}
 use Rattle.journal.proofs.Strikes.{length_left, length_replay, there, well_replay}
 use Rattle.journal.proofs.Returns.{undo_strike, put_without, undoable_iff}
-use Rattle.journal.proofs.Verdicts.{strike_iff, undo_iff}
+use Rattle.journal.proofs.Verdicts.{strike_iff, undo_iff, strike_done, undo_done}
 use Rattle.journal.proofs.Words.{length_written, before_written, take_written, written_again, entry_read}
 
 length_entries : (ds ls st : List ℕ) → length (entries_of ds ls st) ≡ length st * entry_words
@@ -230,8 +229,8 @@ module _ (s : Lent) (k : Sound s) where
 
   strike_next : (r : ℕ) (st : List ℕ) (t : Lent) → Stands s st t → (v : Verdict) → strike_verdict t r ≡ v
       → Stands s (accepted v (r ∷ st) st) (settled v (struck t r) t)
-  strike_next r st t h Allowed e = strike_stands st t h r ((strike_iff t r).0 e)
-  strike_next r st t h (Denied why) e = h
+  strike_next r st t h (Ok u) e = strike_stands st t h r ((strike_iff t r).0 e)
+  strike_next r st t h (Err why) e = h
 
   -- any calls go on from what strikes have made
   session : s.entries ≡ 0 → (cs : List Call) (st : List ℕ) (t : Lent) → Stands s st t → Stands s (standing cs t st) (run cs t)
@@ -240,9 +239,9 @@ module _ (s : Lent) (k : Sound s) where
   session z (undo_last ∷ cs) st t h = session z cs _ _ (go st h (undo_verdict t) refl)
     where
       go : (st : List ℕ) → Stands s st t → (v : Verdict) → undo_verdict t ≡ v → Stands s (accepted v (older st) st) (settled v (undone t) t)
-      go st h (Denied why) e = h
-      go [] h Allowed e = absurd (omega (arith, ((undo_iff t).0 e).some, h.entries))
-      go (r ∷ st) h Allowed e = undo_stands r st t h
+      go st h (Err why) e = h
+      go [] h (Ok u) e = absurd (omega (arith, ((undo_iff t).0 e).some, h.entries))
+      go (r ∷ st) h (Ok u) e = undo_stands r st t h
 
   -- demand 3, first half: any strikes and undos, refused ones included, from a table in order and an empty journal:
   -- the table is what the strikes still standing make of the first one, and the entries are just those of these strikes
@@ -268,7 +267,7 @@ module _ (s : Lent) (k : Sound s) where
   pub undo_all : (st : List ℕ) (t : Lent) → Stands s st t → Stands s [] (run (undos st) t)
   undo_all [] t h = h
   undo_all (r ∷ st) t h =
-      let e : after_undo t ≡ undone t = ap (λ (v : Verdict). settled v (undone t) t) ((undo_iff t).1 (returnable_stands r st t h)) in
+      let e : after_undo t ≡ undone t = undo_done t (returnable_stands r st t h) in
       subst (λ (x : Lent). Stands s [] (run (undos st) x)) (sym e) (undo_all st (undone t) (undo_stands r st t h))
 
   pub restored : (t : Lent) → Stands s [] t → (t.depths ≡ s.depths) × (t.labels ≡ s.labels) × (t.rows ≡ s.rows) × (t.entries ≡ s.entries)
@@ -293,7 +292,7 @@ module _ (s : Lent) (k : Sound s) where
         free = omega (arith, h.words, h.entries);
       } in
       let e : run (strikes (r ∷ st)) s ≡ struck (run (strikes st) s) r =
-      run_behind (strikes st) s ∙ ap (λ (u : Verdict). settled u (struck t r) t) ((strike_iff (run (strikes st) s) r).1 a) in
+      run_behind (strikes st) s ∙ strike_done t r a in
       subst (Stands s (r ∷ st)) (sym e) (strike_stands st (run (strikes st) s) h r a)
     where
       run_behind : (cs : List Call) (u : Lent) → run (cs ++ (strike_row r ∷ [])) u ≡ after_strike (run cs u) r
@@ -312,8 +311,8 @@ undo_after_strike s r a =
     let j : written (struck s r).journal (suc s.entries - 1) no_words ≡ written s.journal s.entries no_words =
     ap (λ (x : ℕ). written (struck s r).journal x no_words) z
     ∙ written_again s.journal s.entries (words (entry_of (used_depths s) (used_labels s) r)) refl (omega (arith, a.free)) no_words in
-    ap after_undo (ap (λ (v : Verdict). settled v (struck s r) s) ((strike_iff s r).1 a))
-    ∙ ap (λ (v : Verdict). settled v (undone (struck s r)) (struck s r)) ((undo_iff (struck s r)).1 (returnable_stands s k r [] (struck s r) h))
+    ap after_undo (strike_done s r a)
+    ∙ undo_done (struck s r) (returnable_stands s k r [] (struck s r) h)
     ∙ same b.0 b.1 b.2 j b.3
   where
     same : {ds ds' ls ls' js js' : List ℕ} {n n' e e' : ℕ} → ds ≡ ds' → ls ≡ ls' → n ≡ n' → js ≡ js' → e ≡ e' → lent ds ls n js e ≡ lent ds' ls' n' js' e'

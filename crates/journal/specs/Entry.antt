@@ -1,11 +1,10 @@
 -- The journal's entries and their words. The layout stands here alone. Assumes nothing.
-use Rattle.std.specs.Prelude.{◌≡◌, Bool, true, false, ◌&&◌, List, [], ◌∷◌, ◌++◌, ℕ, zero, suc, ◌+◌, ◌*◌, ◌/◌, leb, ltb, eqb, length, get_or, take, drop}
+use Rattle.std.specs.Prelude.{◌≡◌, Bool, true, false, Result, Ok, Err, ◌&&◌, List, [], ◌∷◌, ◌++◌, ℕ, zero, suc, ◌+◌, ◌*◌, ◌/◌, leb, ltb, eqb, length, get_or, take, drop}
 use Rattle.rows.specs.Limits.{deepest}
 use Rattle.rows.specs.Rows.{at, Row, depth, descendants, WellFormed}
 use Rattle.rows.specs.FirstBad.{first_bad}
-use Rattle.rows.specs.declared.RowCheck.{RowCheck}
-use Rattle.rows.specs.declared.RowCheck.TheVariants.{Fine, BadStep, TooDeep}
-use Rattle.journal.specs.declared.moves.Noted.{Noted}
+use Rattle.rows.specs.declared.BadRow.{BadRow}
+use Rattle.journal.specs.declared.entry.Entry as code
 use Rattle.journal.specs.Strike.{strike_depths, without, undo_depths}
 
 -- an entry: the row struck, its label, its depth, and its descendants before the strike
@@ -45,8 +44,8 @@ entry_at js k =
       below = get_or js (k * entry_words + 3) 0;
     }
 
--- an entry that code has read
-abbrev pub noted : Noted → Entry
+-- an entry as code holds it
+abbrev pub noted : code.Entry → Entry
 noted e = record { row = e.row; label = e.label; depth = e.depth; below = e.below }
 
 -- the journal slice with an entry's words ws written behind k entries
@@ -67,10 +66,9 @@ abbrev pub Undoable : Entry → List ℕ → List ℕ → Type 0
 Undoable e ds ls = (us : List ℕ) × ((ws : List ℕ) × Struck e ds ls us ws)
 
 -- the check of a table's rows found none bad
-abbrev pub is_fine : RowCheck → Bool
-is_fine Fine = true
-is_fine (BadStep v) = false
-is_fine (TooDeep v) = false
+abbrev pub is_fine : Result (Unit {0}) BadRow → Bool
+is_fine (Ok u) = true
+is_fine (Err bad) = false
 
 -- the same as a test: with a row of depth d put back at place r the table is well-formed, and that row has n descendants
 unfoldable pub may_return : List ℕ → ℕ → ℕ → ℕ → Bool

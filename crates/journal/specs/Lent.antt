@@ -1,5 +1,6 @@
 -- What the two calls are lent, and what they leave: every slot of the slices. Assumes nothing.
 use Rattle.std.specs.Prelude.{List, ◌∷◌, ◌++◌, ℕ, suc, ◌-◌, take, drop}
+use Rattle.journal.specs.declared.judge.Lent as code
 use Rattle.journal.specs.Strike.{strike_depths, without, undo_depths, put_back}
 use Rattle.journal.specs.Entry.{Entry, entry_of, entry_at, words, no_words, written}
 
@@ -13,6 +14,10 @@ pub record Lent : Type 0 where
 
 abbrev pub lent : List ℕ → List ℕ → ℕ → List ℕ → ℕ → Lent
 lent ds ls n js k = record { depths = ds; labels = ls; rows = n; journal = js; entries = k }
+
+-- the same as code hands it on
+abbrev pub lent_of : code.Lent → Lent
+lent_of s = lent s.depths.now s.labels.now s.rows s.journal.now s.entries
 
 -- the used rows
 abbrev pub used_depths : Lent → List ℕ

@@ -1,9 +1,7 @@
 -- An outcome of a call: what comes back, and every lent slice afterwards. Assumes nothing.
-use Rattle.std.specs.Prelude.{◌≡◌, List, ℕ}
-use Rattle.journal.specs.declared.Answer.{Answer}
-use Rattle.journal.specs.declared.Answer.TheVariants.{Done, Refused}
+use Rattle.std.specs.Prelude.{◌≡◌, Ok, Err, List, ℕ}
 use Rattle.journal.specs.Lent.{Lent, lent}
-use Rattle.journal.specs.Refusals.{strike_answer, after_strike, undo_answer, after_undo}
+use Rattle.journal.specs.Refusals.{Answer, strike_answer, after_strike, undo_answer, after_undo}
 
 pub record Outcome : Type 0 where
   pub answer : Answer
@@ -27,12 +25,12 @@ MeetsUndo s o = Meets o (undo_answer s) (after_undo s)
 
 -- the counts that the caller goes on with: those handed back, or after a refusal its own
 abbrev pub rows_now : Answer → ℕ → ℕ
-rows_now (Done rows entries) old = rows
-rows_now (Refused why) old = old
+rows_now (Ok counts) old = counts.rows
+rows_now (Err why) old = old
 
 abbrev pub entries_now : Answer → ℕ → ℕ
-entries_now (Done rows entries) old = entries
-entries_now (Refused why) old = old
+entries_now (Ok counts) old = counts.entries
+entries_now (Err why) old = old
 
 -- what the caller lends to its next call
 abbrev pub taken_over : Lent → Outcome → Lent

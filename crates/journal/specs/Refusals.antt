@@ -1,18 +1,23 @@
 -- Document 01, "Numbers of refusal", 21 to 29: exactly when, in which order, with which number and place. Assumes nothing.
-use Rattle.std.specs.Prelude.{Bool, true, false, ℕ, ◌%◌, ◌≤◌, ◌<◌, ◌≡◌, leb, ltb, eqb, length}
+use Rattle.std.specs.Prelude.{Bool, true, false, Result, Ok, Err, ℕ, ◌%◌, ◌≤◌, ◌<◌, ◌≡◌, leb, ltb, eqb, length, List, ◌∷◌, ◌++◌}
+use Rattle.std.specs.Fmt.{decimal}
 use Rattle.rows.specs.Limits.{listing_rows}
 use Rattle.rows.specs.Rows.{WellFormed}
 use Rattle.rows.specs.FirstBad.{first_bad}
-use Rattle.rows.specs.declared.RowCheck.{RowCheck}
-use Rattle.rows.specs.declared.RowCheck.TheVariants.{Fine, BadStep, TooDeep}
+use Rattle.rows.specs.declared.BadRow as rows
+use Rattle.rows.specs.declared.BadRow.TheVariants.{Step, TooDeep}
 use Rattle.journal.specs.declared.Refusal.{Refusal}
 use Rattle.journal.specs.declared.Refusal.TheVariants.{TableSlices, RowCount, BadRow, JournalSlice, NoSuchRow, JournalFull, NoEntries, TableFull, NeverStruck}
-use Rattle.journal.specs.declared.Verdict.{Verdict}
-use Rattle.journal.specs.declared.Verdict.TheVariants.{Allowed, Denied}
-use Rattle.journal.specs.declared.Answer.{Answer}
-use Rattle.journal.specs.declared.Answer.TheVariants.{Done, Refused}
+use Rattle.journal.specs.declared.Counts.{Counts}
 use Rattle.journal.specs.Entry.{entry_words, room, may_return}
 use Rattle.journal.specs.Lent.{Lent, used_depths, newest, struck, undone}
+
+-- a judgement before anything is written, and what a call answers: the new counts, or the refusal
+abbrev pub Verdict : Type 0
+Verdict = Result (Unit {0}) Refusal
+
+abbrev pub Answer : Type 0
+Answer = Result Counts Refusal
 
 -- the number of a refusal
 abbrev pub number : Refusal → ℕ
@@ -38,6 +43,10 @@ place NoEntries = 0
 place TableFull = 0
 place NeverStruck = 0
 
+-- both as document 01's line has them, in decimal with a space between
+abbrev pub number_and_place : Refusal → List ℕ
+number_and_place why = decimal (number why) ++ (32 ∷ decimal (place why))
+
 -- the journal's most words
 abbrev pub journal_words : ℕ
 journal_words = 16384
@@ -45,24 +54,27 @@ journal_words = 16384
 -- refused unless a test holds; then what comes next
 abbrev pub unless : Bool → Refusal → Verdict → Verdict
 unless true why next = next
-unless false why next = Denied why
+unless false why next = Err why
 
--- refused at the first bad row
-abbrev pub unless_bad : RowCheck → Verdict → Verdict
-unless_bad Fine next = next
-unless_bad (BadStep v) next = Denied (BadRow v)
-unless_bad (TooDeep v) next = Denied (BadRow v)
+-- refused at the first bad row, whatever is bad there
+abbrev pub of_bad_row : rows.BadRow → Refusal
+of_bad_row (Step v) = BadRow v
+of_bad_row (TooDeep v) = BadRow v
+
+abbrev pub unless_bad : Result (Unit {0}) rows.BadRow → Verdict → Verdict
+unless_bad (Ok u) next = next
+unless_bad (Err bad) next = Err (of_bad_row bad)
 
 -- one judgement after another
 abbrev pub and_then : Verdict → Verdict → Verdict
-and_then Allowed next = next
-and_then (Denied why) next = Denied why
+and_then (Ok u) next = next
+and_then (Err why) next = Err why
 
 -- 24: the journal's words, and more entries counted than fit
 unfoldable pub journal_verdict : Lent → Verdict
 journal_verdict s =
     unless (eqb (length s.journal % entry_words) 0) JournalSlice
-    (unless (leb (length s.journal) journal_words) JournalSlice (unless (leb s.entries (room s.journal)) JournalSlice Allowed))
+    (unless (leb (length s.journal) journal_words) JournalSlice (unless (leb s.entries (room s.journal)) JournalSlice (Ok tt)))
 
 -- 21 to 24: the table's slices, the row count, the rows, then the journal
 unfoldable pub lent_verdict : Lent → Verdict
@@ -75,7 +87,7 @@ lent_verdict s =
 unfoldable pub strike_verdict : Lent → ℕ → Verdict
 strike_verdict s r =
     and_then (lent_verdict s)
-    (unless (leb 1 r) NoSuchRow (unless (leb r s.rows) NoSuchRow (unless (ltb s.entries (room s.journal)) JournalFull Allowed)))
+    (unless (leb 1 r) NoSuchRow (unless (leb r s.rows) NoSuchRow (unless (ltb s.entries (room s.journal)) JournalFull (Ok tt))))
 
 -- an undo: 21 to 24, 27 to 29
 unfoldable pub undo_verdict : Lent → Verdict
@@ -83,17 +95,17 @@ undo_verdict s =
     and_then (lent_verdict s)
     (unless (leb 1 s.entries) NoEntries
     (unless (ltb s.rows (length s.depths)) TableFull
-    (unless (may_return (used_depths s) (newest s).row (newest s).depth (newest s).below) NeverStruck Allowed)))
+    (unless (may_return (used_depths s) (newest s).row (newest s).depth (newest s).below) NeverStruck (Ok tt))))
 
 -- the answer: the new counts, or the refusal
 abbrev pub answered : Verdict → Lent → Answer
-answered Allowed s = Done s.rows s.entries
-answered (Denied why) s = Refused why
+answered (Ok u) s = Ok (record { rows = s.rows; entries = s.entries })
+answered (Err why) s = Err why
 
 -- what the call leaves: a refusal leaves all as it was
 abbrev pub settled : Verdict → Lent → Lent → Lent
-settled Allowed after before = after
-settled (Denied why) after before = before
+settled (Ok u) after before = after
+settled (Err why) after before = before
 
 -- what a strike of row r answers, and what it leaves
 abbrev pub strike_answer : Lent → ℕ → Answer

@@ -1,12 +1,10 @@
 -- A session: any list of strikes and undos on what is lent, refused ones included, and the strikes still standing after it. Assumes nothing.
-use Rattle.std.specs.Prelude.{◌≡◌, List, [], ◌∷◌, ◌++◌, ℕ, ◌+◌, ◌*◌, ◌≤◌, length, take, drop, replicate}
+use Rattle.std.specs.Prelude.{◌≡◌, Ok, Err, List, [], ◌∷◌, ◌++◌, ℕ, ◌+◌, ◌*◌, ◌≤◌, length, take, drop, replicate}
 use Rattle.rows.specs.Forest.{numbers}
-use Rattle.journal.specs.declared.Verdict.{Verdict}
-use Rattle.journal.specs.declared.Verdict.TheVariants.{Allowed, Denied}
 use Rattle.journal.specs.Strike.{strike_depths, without}
 use Rattle.journal.specs.Entry.{entry_of, entry_words, words}
 use Rattle.journal.specs.Lent.{Lent, used_depths, used_labels}
-use Rattle.journal.specs.Refusals.{strike_verdict, after_strike, undo_verdict, after_undo}
+use Rattle.journal.specs.Refusals.{Verdict, strike_verdict, after_strike, undo_verdict, after_undo}
 
 -- one call
 pub data Call : Type 0 where
@@ -20,8 +18,8 @@ run (strike_row r ∷ cs) s = run cs (after_strike s r)
 run (undo_last ∷ cs) s = run cs (after_undo s)
 
 abbrev pub accepted : {A : Type 0} → Verdict → A → A → A
-accepted Allowed new old = new
-accepted (Denied why) new old = old
+accepted (Ok u) new old = new
+accepted (Err why) new old = old
 
 abbrev pub older : List ℕ → List ℕ
 older [] = []

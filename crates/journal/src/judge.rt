@@ -1,108 +1,120 @@
 // Which refusal, if any, in document 01's order.
-ghost use Rattle.std.specs.Prelude.{◌≡◌, suc, ◌+◌, ◌-◌, ◌≤◌, length, drop};
+ghost use Rattle.std.specs.Prelude.{◌≡◌, OnOk, suc, ◌+◌, ◌-◌, ◌≤◌, length};
 ghost use Rattle.rows.specs.Limits.{deepest};
 ghost use Rattle.rows.specs.Rows.{WellFormed};
 ghost use Rattle.rows.specs.FirstBad.{most_at};
-ghost use Rattle.journal.specs.Entry.{may_return, may_rise};
-ghost use Rattle.journal.specs.Lent.{lent};
-ghost use Rattle.journal.specs.Refusals.{lent_verdict, strike_verdict, undo_verdict};
+ghost use Rattle.journal.specs.Entry.{room, may_return, may_rise};
+ghost use Rattle.journal.specs.Lent.{lent_of};
+ghost use Rattle.journal.specs.Refusals.{lent_verdict, strike_verdict, undo_verdict, Sound, Strikable, Returnable};
 
-use crate::{ENTRY_WORDS, JOURNAL_WORDS, Refusal, Verdict, moves};
-use rows::RowCheck;
+use crate::entry::Entry;
+use crate::{ENTRY_WORDS, JOURNAL_WORDS, Refusal};
 
-// Numbers 21 to 24: the slices, the row count, the first bad row, the journal.
-pub(crate) fn lent_verdict(
-    depths: &[u16],
-    labels: &[u32],
-    count: usize,
-    journal: &[u32],
-    entries: usize,
-) -> Verdict
-    ensures { result ≡ lent_verdict (lent depths.now labels.now count journal.now entries) }
-{
-    if depths.len() != labels.len() {
-        return Verdict::Denied(Refusal::TableSlices);
-    }
-    if rows::LISTING_ROWS < depths.len() {
-        return Verdict::Denied(Refusal::TableSlices);
-    }
-    if depths.len() < count {
-        return Verdict::Denied(Refusal::RowCount);
-    }
-    match rows::first_bad(&depths[..count]) {
-        RowCheck::BadStep(row) => return Verdict::Denied(Refusal::BadRow(row)),
-        RowCheck::TooDeep(row) => return Verdict::Denied(Refusal::BadRow(row)),
-        RowCheck::Fine => {}
-    }
-    if journal.len() % ENTRY_WORDS != 0 {
-        return Verdict::Denied(Refusal::JournalSlice);
-    }
-    if JOURNAL_WORDS < journal.len() {
-        return Verdict::Denied(Refusal::JournalSlice);
-    }
-    if journal.len() / ENTRY_WORDS < entries {
-        return Verdict::Denied(Refusal::JournalSlice);
-    }
-    Verdict::Allowed
+// What a call is lent, in document 01's form: the table's two slices and its count of rows, the journal's slice and its count of entries.
+#[derive(Clone, Copy)]
+pub(crate) struct Lent<'a> {
+    pub(crate) depths: &'a [u16],
+    pub(crate) labels: &'a [u32],
+    pub(crate) rows: usize,
+    pub(crate) journal: &'a [u32],
+    pub(crate) entries: usize,
 }
 
-// A strike's numbers, 21 to 26.
-pub(crate) fn strike_verdict(
-    depths: &[u16],
-    labels: &[u32],
-    count: usize,
-    journal: &[u32],
-    entries: usize,
-    row: usize,
-) -> Verdict
-    ensures { result ≡ strike_verdict (lent depths.now labels.now count journal.now entries) row }
-{
-    match lent_verdict(depths, labels, count, journal, entries) {
-        Verdict::Denied(why) => return Verdict::Denied(why),
-        Verdict::Allowed => {}
+impl<'a> Lent<'a> {
+    // Numbers 21 to 24: the slices, the row count, the first bad row, the journal.
+    #[tactic(auto, unfolding(crate::specs::Refusals::lent_verdict, crate::specs::Refusals::journal_verdict))]
+    fn lent_verdict(self) -> Result<(), Refusal>
+        ensures verdict { result ≡ lent_verdict (lent_of self.entry) }
+        ensures sound { OnOk result (Sound (lent_of self.entry)) }
+    {
+        if self.depths.len() != self.labels.len() {
+            return Err(Refusal::TableSlices);
+        }
+        if rows::LISTING_ROWS < self.depths.len() {
+            return Err(Refusal::TableSlices);
+        }
+        if self.depths.len() < self.rows {
+            return Err(Refusal::RowCount);
+        }
+        rows::first_bad(&self.depths[..self.rows])?;
+        if self.journal.len() % ENTRY_WORDS != 0 {
+            return Err(Refusal::JournalSlice);
+        }
+        if JOURNAL_WORDS < self.journal.len() {
+            return Err(Refusal::JournalSlice);
+        }
+        if self.room() < self.entries {
+            return Err(Refusal::JournalSlice);
+        }
+        Ok(())
     }
-    if row < 1 {
-        return Verdict::Denied(Refusal::NoSuchRow);
+
+    // How many entries the journal has room for.
+    fn room(self) -> usize
+        ensures { result ≡ room self.entry.journal.now }
+    {
+        self.journal.len() / ENTRY_WORDS
     }
-    if count < row {
-        return Verdict::Denied(Refusal::NoSuchRow);
+
+    // A strike's numbers, 21 to 26.
+    #[tactic(auto, unfolding(crate::specs::Refusals::strike_verdict))]
+    pub(crate) fn strike_verdict(self, row: usize) -> Result<(), Refusal>
+        ensures verdict { result ≡ strike_verdict (lent_of self.entry) row }
+        ensures strikable { OnOk result (Strikable (lent_of self.entry) row) }
+    {
+        self.lent_verdict()?;
+        if row < 1 {
+            return Err(Refusal::NoSuchRow);
+        }
+        if self.rows < row {
+            return Err(Refusal::NoSuchRow);
+        }
+        if self.room() <= self.entries {
+            return Err(Refusal::JournalFull);
+        }
+        Ok(())
     }
-    if journal.len() / ENTRY_WORDS <= entries {
-        return Verdict::Denied(Refusal::JournalFull);
+
+    // An undo's numbers, 21 to 24 and 27 to 29.
+    #[tactic(auto, unfolding(crate::specs::Refusals::undo_verdict))]
+    pub(crate) fn undo_verdict(self) -> Result<(), Refusal>
+        ensures verdict { result ≡ undo_verdict (lent_of self.entry) }
+        ensures returnable { OnOk result (Returnable (lent_of self.entry)) }
+    {
+        self.lent_verdict()?;
+        if self.entries < 1 {
+            return Err(Refusal::NoEntries);
+        }
+        if self.depths.len() <= self.rows {
+            return Err(Refusal::TableFull);
+        }
+        let newest = Entry::read(self.journal, self.entries - 1);
+        if !may_return(&self.depths[..self.rows], newest) {
+            return Err(Refusal::NeverStruck);
+        }
+        Ok(())
     }
-    Verdict::Allowed
 }
 
-// Whether the `below` rows from index `at` on may rise under a row of depth `depth` that returns before them, and just they stand below it.
-fn may_rise(depths: &[u16], at: usize, below: usize, depth: u16) -> bool
-    requires { depth ≤ deepest }
-    ensures { result ≡ may_rise (suc depth) depth below (drop at depths.now) }
+// Number 29's test: whether the row of an entry may return at its place.
+#[tactic(auto, using(crate::proofs::Rises::return_here), unfolding(crate::specs::Entry::may_return))]
+fn may_return(depths: &[u16], entry: Entry) -> bool
+    requires { WellFormed depths.now }
+    ensures { result ≡ may_return depths.now entry.row entry.depth entry.below }
 {
-    let mut most = depth + 1;
-    let mut i = at;
-    let mut left = below;
-    while 0 < left {
-        if depths.len() <= i {
-            return false;
-        }
-        let d = depths[i];
-        if d < depth {
-            return false;
-        }
-        if most <= d {
-            return false;
-        }
-        if rows::DEEPEST <= d {
-            return false;
-        }
-        most = d + 2;
-        i += 1;
-        left -= 1;
+    if entry.row < 1 {
+        return false;
     }
-    if depths.len() <= i {
-        return true;
+    if depths.len() < entry.row - 1 {
+        return false;
     }
-    depths[i] <= depth
+    if u32::from(most_at(depths, entry.row)) < entry.depth {
+        return false;
+    }
+    if u32::from(rows::DEEPEST) < entry.depth {
+        return false;
+    }
+    may_rise(&depths[entry.row - 1..], entry.below, entry.depth as u16)
 }
 
 // The most that the depth of a row at place `row` may be: 0 for row 1, one more than the depth before it for a later row.
@@ -117,53 +129,21 @@ fn most_at(depths: &[u16], row: usize) -> u16
     depths[row - 2] + 1
 }
 
-// Number 29's test: whether a row of depth `depth` may return at place `row` above `below` rows.
-fn may_return(depths: &[u16], row: usize, depth: u32, below: usize) -> bool
-    requires { WellFormed depths.now }
-    ensures { result ≡ may_return depths.now row depth below }
+// Whether the first `below` of the rows behind a row of depth `depth` that returns may rise under it, and just they stand below it.
+#[tactic(auto, using(crate::proofs::Rises::rise_short))]
+fn may_rise(behind: &[u16], below: usize, depth: u16) -> bool
+    requires { depth ≤ deepest }
+    ensures { result ≡ may_rise (suc depth) depth below behind.now }
 {
-    if row < 1 {
+    if behind.len() < below {
         return false;
     }
-    if depths.len() < row - 1 {
-        return false;
+    let mut most = depth + 1;
+    for &d in &behind[..below] {
+        if d < depth || most <= d || rows::DEEPEST <= d {
+            return false;
+        }
+        most = d + 2;
     }
-    if (most_at(depths, row) as u32) < depth {
-        return false;
-    }
-    if (rows::DEEPEST as u32) < depth {
-        return false;
-    }
-    may_rise(depths, row - 1, below, depth as u16)
-}
-
-// An undo's numbers, 21 to 24 and 27 to 29.
-pub(crate) fn undo_verdict(
-    depths: &[u16],
-    labels: &[u32],
-    count: usize,
-    journal: &[u32],
-    entries: usize,
-) -> Verdict
-    ensures { result ≡ undo_verdict (lent depths.now labels.now count journal.now entries) }
-{
-    match lent_verdict(depths, labels, count, journal, entries) {
-        Verdict::Denied(why) => return Verdict::Denied(why),
-        Verdict::Allowed => {}
-    }
-    if entries < 1 {
-        return Verdict::Denied(Refusal::NoEntries);
-    }
-    if depths.len() <= count {
-        return Verdict::Denied(Refusal::TableFull);
-    }
-    let entry = moves::read_entry(journal, entries - 1);
-    let row = entry.row as usize;
-    let depth = entry.depth;
-    let below = entry.below as usize;
-    if may_return(&depths[..count], row, depth, below) {
-        Verdict::Allowed
-    } else {
-        Verdict::Denied(Refusal::NeverStruck)
-    }
+    behind.len() == below || behind[below] <= depth
 }

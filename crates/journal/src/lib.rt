@@ -1,12 +1,18 @@
 // Strike and undo: the engineer edits a listing by striking rows, and the journal takes strikes back.
 #![tactic(auto)]
 
-mod moves; // rows that gain or lose a level and move by one place, and the words of an entry
+mod moves; // slots that move by one place
+mod entry; // an entry and its words in the journal
 mod judge; // which refusal, if any
 
-ghost use Rattle.std.specs.Prelude.{◌≡◌};
-ghost use Rattle.journal.specs.Lent.{lent, struck, undone};
-ghost use Rattle.journal.specs.Refusals.{number, place, strike_answer, after_strike, undo_answer, after_undo, Strikable, Returnable};
+ghost use Rattle.std.specs.Prelude.{◌≡◌, Some};
+ghost use Rattle.journal.specs.Lent.{lent};
+ghost use Rattle.journal.specs.Refusals.{number, place, number_and_place, of_bad_row, strike_answer, after_strike, undo_answer, after_undo};
+
+use entry::Entry;
+use judge::Lent;
+use rows::BadRow;
+use std::fmt;
 
 // The most words of a journal, and the words of an entry.
 pub const JOURNAL_WORDS: usize = 16384;
@@ -14,7 +20,7 @@ pub const JOURNAL_WORDS: usize = 16384;
 pub const ENTRY_WORDS: usize = 4;
 
 // Why a call is refused: document 01's numbers 21 to 29, in their order. A bad row has its number.
-#[derive(Clone, Copy)]
+#[derive(Clone, Copy, Debug, PartialEq, Eq)]
 pub enum Refusal {
     TableSlices,
     RowCount,
@@ -27,53 +33,63 @@ pub enum Refusal {
     NeverStruck,
 }
 
-// Document 01's number of a refusal.
-pub fn number_of(why: Refusal) -> u32
-    ensures { result ≡ number why }
-{
-    match why {
-        Refusal::TableSlices => 21,
-        Refusal::RowCount => 22,
-        Refusal::BadRow(_) => 23,
-        Refusal::JournalSlice => 24,
-        Refusal::NoSuchRow => 25,
-        Refusal::JournalFull => 26,
-        Refusal::NoEntries => 27,
-        Refusal::TableFull => 28,
-        Refusal::NeverStruck => 29,
+impl Refusal {
+    // Document 01's number of a refusal.
+    pub fn number(self) -> u32
+        ensures { result ≡ number self }
+    {
+        match self {
+            Refusal::TableSlices => 21,
+            Refusal::RowCount => 22,
+            Refusal::BadRow(_) => 23,
+            Refusal::JournalSlice => 24,
+            Refusal::NoSuchRow => 25,
+            Refusal::JournalFull => 26,
+            Refusal::NoEntries => 27,
+            Refusal::TableFull => 28,
+            Refusal::NeverStruck => 29,
+        }
+    }
+
+    // Its place: the first bad row, or 0.
+    pub fn place(self) -> usize
+        ensures { result ≡ place self }
+    {
+        match self {
+            Refusal::BadRow(row) => row,
+            _ => 0,
+        }
     }
 }
 
-// Its place: the first bad row, or 0.
-pub fn place_of(why: Refusal) -> usize
-    ensures { result ≡ place why }
-{
-    match why {
-        Refusal::TableSlices => 0,
-        Refusal::RowCount => 0,
-        Refusal::BadRow(row) => row,
-        Refusal::JournalSlice => 0,
-        Refusal::NoSuchRow => 0,
-        Refusal::JournalFull => 0,
-        Refusal::NoEntries => 0,
-        Refusal::TableFull => 0,
-        Refusal::NeverStruck => 0,
+// The first bad row, whatever is bad there.
+impl From<BadRow> for Refusal {
+    ghost from_gives = { λ bad why. why ≡ of_bad_row bad };
+
+    fn from(bad: BadRow) -> Refusal {
+        match bad {
+            BadRow::Step(row) | BadRow::TooDeep(row) => Refusal::BadRow(row),
+        }
     }
 }
 
-// A judgement before anything is written.
-#[derive(Clone, Copy)]
-pub enum Verdict {
-    Allowed,
-    Denied(Refusal),
+// As document 01's line has it: the number and the place.
+impl fmt::Display for Refusal {
+    ghost output = { λ why. Some (number_and_place why) };
+
+    fn fmt<W: fmt::Write>(&self, f: &mut fmt::Formatter<W>) -> fmt::Result {
+        write!(f, "{} {}", self.number(), self.place())
+    }
 }
 
-// What a call answers: the new count of rows and of entries, or the refusal.
-#[derive(Clone, Copy)]
-pub enum Answer {
-    Done(usize, usize),
-    Refused(Refusal),
+// The counts of rows and of entries that the caller goes on with.
+#[derive(Clone, Copy, Debug, PartialEq, Eq)]
+pub struct Counts {
+    pub rows: usize,
+    pub entries: usize,
 }
+
+// Both calls take slices and counts one by one, as document 01 lends them.
 
 // Strikes a row of the table and writes its entry. A refusal leaves all slices as they were.
 pub fn strike(
@@ -83,47 +99,37 @@ pub fn strike(
     journal: &mut [u32],
     entries: usize,
     row: usize,
-) -> Answer
+) -> Result<Counts, Refusal>
     ensures answer { result ≡ strike_answer (lent depths.old labels.old count journal.old entries) row }
     ensures depths { depths.new ≡ (after_strike (lent depths.old labels.old count journal.old entries) row).depths }
     ensures labels { labels.new ≡ (after_strike (lent depths.old labels.old count journal.old entries) row).labels }
     ensures journal { journal.new ≡ (after_strike (lent depths.old labels.old count journal.old entries) row).journal }
 {
-    match judge::strike_verdict(depths, labels, count, journal, entries, row) {
-        Verdict::Denied(why) => Answer::Refused(why),
-        Verdict::Allowed => {
-            carry_out_strike(depths, labels, count, journal, entries, row);
-            Answer::Done(count - 1, entries + 1)
-        }
-    }
-}
-
-// An accepted strike: the entry is written, the descendants lose one from their depths, later rows move up a place.
-fn carry_out_strike(
-    depths: &mut [u16],
-    labels: &mut [u32],
-    count: usize,
-    journal: &mut [u32],
-    entries: usize,
-    row: usize,
-)
-    requires { Strikable (lent depths.old labels.old count journal.old entries) row }
-    ensures depths { depths.new ≡ (struck (lent depths.old labels.old count journal.old entries) row).depths }
-    ensures labels { labels.new ≡ (struck (lent depths.old labels.old count journal.old entries) row).labels }
-    ensures journal { journal.new ≡ (struck (lent depths.old labels.old count journal.old entries) row).journal }
-{
-    let below = rows::descendants_of(&depths[..count], rows::Opening(row));
-    moves::write_entry(
+    let lent = Lent {
+        depths,
+        labels,
+        rows: count,
         journal,
         entries,
-        row as u32,
-        labels[row - 1],
-        depths[row - 1] as u32,
-        below as u32,
-    );
-    moves::lower_rows(depths, row, below);
-    moves::close_depths(depths, row, count);
-    moves::close_labels(labels, row, count);
+    };
+    lent.strike_verdict(row)?;
+    let below = rows::descendants_of(&depths[..count], rows::Opening(row));
+    let entry = Entry {
+        row,
+        label: labels[row - 1],
+        depth: u32::from(depths[row - 1]),
+        below,
+    };
+    entry.write(journal, entries);
+    for depth in &mut depths[row..row + below] {
+        *depth -= 1;
+    }
+    moves::close(depths, row, count, 0);
+    moves::close(labels, row, count, 0);
+    Ok(Counts {
+        rows: count - 1,
+        entries: entries + 1,
+    })
 }
 
 // Takes the newest strike back: its row returns, and its entry's words become 0. A refusal leaves all slices as they were.
@@ -133,41 +139,30 @@ pub fn undo(
     count: usize,
     journal: &mut [u32],
     entries: usize,
-) -> Answer
+) -> Result<Counts, Refusal>
     ensures answer { result ≡ undo_answer (lent depths.old labels.old count journal.old entries) }
     ensures depths { depths.new ≡ (after_undo (lent depths.old labels.old count journal.old entries)).depths }
     ensures labels { labels.new ≡ (after_undo (lent depths.old labels.old count journal.old entries)).labels }
     ensures journal { journal.new ≡ (after_undo (lent depths.old labels.old count journal.old entries)).journal }
 {
-    match judge::undo_verdict(depths, labels, count, journal, entries) {
-        Verdict::Denied(why) => Answer::Refused(why),
-        Verdict::Allowed => {
-            carry_out_undo(depths, labels, count, journal, entries);
-            Answer::Done(count + 1, entries - 1)
-        }
+    let lent = Lent {
+        depths,
+        labels,
+        rows: count,
+        journal,
+        entries,
+    };
+    lent.undo_verdict()?;
+    let entry = Entry::read(journal, entries - 1);
+    Entry::NONE.write(journal, entries - 1);
+    let first = entry.row - 1;
+    for depth in &mut depths[first..first + entry.below] {
+        *depth += 1;
     }
-}
-
-// An accepted undo: the entry's words become 0, the rows that were the descendants gain one, and the row returns at its place.
-fn carry_out_undo(
-    depths: &mut [u16],
-    labels: &mut [u32],
-    count: usize,
-    journal: &mut [u32],
-    entries: usize,
-)
-    requires { Returnable (lent depths.old labels.old count journal.old entries) }
-    ensures depths { depths.new ≡ (undone (lent depths.old labels.old count journal.old entries)).depths }
-    ensures labels { labels.new ≡ (undone (lent depths.old labels.old count journal.old entries)).labels }
-    ensures journal { journal.new ≡ (undone (lent depths.old labels.old count journal.old entries)).journal }
-{
-    let entry = moves::read_entry(journal, entries - 1);
-    let row = entry.row as usize;
-    let label = entry.label;
-    let depth = entry.depth as u16;
-    let below = entry.below as usize;
-    moves::write_entry(journal, entries - 1, 0, 0, 0, 0);
-    moves::raise_rows(depths, row - 1, below);
-    moves::open_depths(depths, row, count, depth);
-    moves::open_labels(labels, row, count, label);
+    moves::open(depths, entry.row, count, entry.depth as u16);
+    moves::open(labels, entry.row, count, entry.label);
+    Ok(Counts {
+        rows: count + 1,
+        entries: entries - 1,
+    })
 }

@@ -5,254 +5,130 @@
 
 ghost use Rattle.std.specs.Prelude.{◌≤◌, length, IfOk};
 
-use journal::Answer;
+use journal::{Counts, Refusal};
+use std::fmt::Display;
 use std::io::{self, Read, Write};
 
-// Where the reading stands, and the sizes and counts of the session in play.
-#[derive(Clone, Copy)]
+// The slots of a session: the first `lent` of N. There is no heap here, so the count stands beside the array.
+#[derive(Drop)]
+struct Slots<T, const N: usize> {
+    all: [T; N],
+    lent: usize,
+}
+
+// The session in play: what a call is lent, and its counts.
+#[derive(Drop)]
 struct Play {
-    at: usize,
-    depth_slots: usize,
-    label_slots: usize,
+    depths: Slots<u16, 80>,
+    labels: Slots<u32, 80>,
+    words: Slots<u32, 64>,
     rows: usize,
-    words: usize,
     entries: usize,
 }
 
-// The byte that stands i behind a place of the input; 0 past its end.
-fn byte_at(input: &[u8], at: usize, i: usize) -> u8 {
-    if input.len() <= at {
-        return 0;
-    }
-    if input.len() - at <= i {
-        return 0;
-    }
-    input[at + i]
+// The byte at a place of the input; 0 past its end.
+fn byte_at(input: &[u8], i: usize) -> u8 {
+    input.get(i).copied().unwrap_or(0)
+}
+
+// The input behind its first n bytes.
+fn behind(input: &[u8], n: usize) -> &[u8]
+    ensures { length result.now ≤ length input.now }
+{
+    &input[n.min(input.len())..]
 }
 
 // The word that a byte stands for: itself, but 255 stands for 70,000, which is over every depth.
 fn word_of(byte: u8) -> u32 {
-    if byte == 255 { 70000 } else { byte as u32 }
+    if byte == 255 { 70000 } else { u32::from(byte) }
 }
 
-fn least(a: usize, b: usize) -> usize
-    ensures { (result ≤ a) × (result ≤ b) }
-{
-    if a < b { a } else { b }
-}
+impl<T: Copy + Drop + Display, const N: usize> Slots<T, N> {
+    // How many are lent. No ghost field says that they fit: a struct with one does not lend its array of N.
+    fn count(&self) -> usize
+        ensures { result ≤ N }
+    {
+        self.lent.min(N)
+    }
 
-// Writes a number and a space.
-fn say<W: Write>(out: &mut W, n: u64) -> io::Result<()> {
-    write!(out, "{n} ")
-}
+    // The lent slots.
+    fn lent(&mut self) -> &mut [T] {
+        let n = self.count();
+        &mut self.all[..n]
+    }
 
-// Writes an answer, and gives the play with the counts that it leaves.
-fn settle<W: Write>(out: &mut W, p: Play, at: usize, answer: Answer) -> io::Result<Play> {
-    match answer {
-        Answer::Done(rows, entries) => {
-            say(out, 0)?;
-            say(out, rows as u64)?;
-            say(out, entries as u64)?;
-            Ok(Play {
-                at: at,
-                depth_slots: p.depth_slots,
-                label_slots: p.label_slots,
-                rows: rows,
-                words: p.words,
-                entries: entries,
-            })
+    // Lends so many slots, filled with what the input's bytes stand for, and gives the input behind them.
+    fn fill<'a, F: Fn(u8) -> T + Drop>(&mut self, lent: u8, input: &'a [u8], value: F) -> &'a [u8]
+        requires { F.IsAlwaysCallable value }
+        ensures { length result.now ≤ length input.now }
+    {
+        let n = usize::from(lent).min(N);
+        for i in 0..n {
+            self.all[i] = value(byte_at(input, i));
         }
-        Answer::Refused(why) => {
-            say(out, journal::number_of(why) as u64)?;
-            say(out, journal::place_of(why) as u64)?;
-            Ok(Play {
-                at: at,
-                depth_slots: p.depth_slots,
-                label_slots: p.label_slots,
-                rows: p.rows,
-                words: p.words,
-                entries: p.entries,
-            })
+        self.lent = n;
+        behind(input, n)
+    }
+
+    // Writes every lent slot.
+    fn say<W: Write>(&self, out: &mut W) -> io::Result<()> {
+        for slot in &self.all[..self.count()] {
+            write!(out, "{slot} ")?;
         }
+        Ok(())
     }
 }
 
-// Writes every slot, and ends the line.
-fn say_depths<W: Write>(out: &mut W, depths: &[u16]) -> io::Result<()> {
-    for i in 0..depths.len() {
-        say(out, depths[i] as u64)?;
+impl Play {
+    // Begins a session: its sizes and counts, and the contents of its slots. Gives the input behind them.
+    fn begin<'a>(&mut self, input: &'a [u8]) -> &'a [u8]
+        ensures { length result.now ≤ length input.now }
+    {
+        self.rows = usize::from(byte_at(input, 2));
+        self.entries = usize::from(byte_at(input, 4));
+        let rest = behind(input, 5);
+        let rest = self.depths.fill(byte_at(input, 0), rest, u16::from);
+        let rest = self.labels.fill(byte_at(input, 1), rest, word_of);
+        self.words.fill(byte_at(input, 3), rest, word_of)
     }
-    Ok(())
-}
 
-fn say_words<W: Write>(out: &mut W, words: &[u32]) -> io::Result<()> {
-    for i in 0..words.len() {
-        say(out, words[i] as u64)?;
+    // A strike of a row.
+    fn strike<W: Write>(&mut self, out: &mut W, row: usize) -> io::Result<()> {
+        let depths = self.depths.lent();
+        let labels = self.labels.lent();
+        let words = self.words.lent();
+        let answer = journal::strike(depths, labels, self.rows, words, self.entries, row);
+        self.settle(out, answer)
     }
-    Ok(())
-}
 
-fn say_slots<W: Write>(
-    out: &mut W,
-    depths: &[u16],
-    labels: &[u32],
-    words: &[u32],
-) -> io::Result<()> {
-    say_depths(out, depths)?;
-    say_words(out, labels)?;
-    say_words(out, words)?;
-    out.write_all(b"\n")
-}
-
-// Fills slots with the input's bytes from a place on.
-fn fill_depths(depths: &mut [u16], input: &[u8], at: usize) {
-    for i in 0..depths.len() {
-        depths[i] = byte_at(input, at, i) as u16;
+    // An undo.
+    fn undo<W: Write>(&mut self, out: &mut W) -> io::Result<()> {
+        let depths = self.depths.lent();
+        let labels = self.labels.lent();
+        let words = self.words.lent();
+        let answer = journal::undo(depths, labels, self.rows, words, self.entries);
+        self.settle(out, answer)
     }
-}
 
-fn fill_words(words: &mut [u32], input: &[u8], at: usize) {
-    for i in 0..words.len() {
-        words[i] = word_of(byte_at(input, at, i));
-    }
-}
-
-// The place behind n more bytes, at most the input's end.
-fn behind(input: &[u8], at: usize, n: usize) -> usize {
-    if input.len() <= at {
-        return input.len();
-    }
-    if input.len() - at <= n {
-        return input.len();
-    }
-    at + n
-}
-
-// Begins a session: its sizes and counts, and the contents of its slots.
-fn begin(
-    input: &[u8],
-    at: usize,
-    depths: &mut [u16],
-    labels: &mut [u32],
-    words: &mut [u32],
-) -> Play {
-    let d = least(byte_at(input, at, 1) as usize, depths.len());
-    let l = least(byte_at(input, at, 2) as usize, labels.len());
-    let w = least(byte_at(input, at, 4) as usize, words.len());
-    let first = behind(input, at, 6);
-    let second = behind(input, first, d);
-    let third = behind(input, second, l);
-    fill_depths(&mut depths[..d], input, first);
-    fill_words(&mut labels[..l], input, second);
-    fill_words(&mut words[..w], input, third);
-    Play {
-        at: behind(input, third, w),
-        depth_slots: d,
-        label_slots: l,
-        rows: byte_at(input, at, 3) as usize,
-        words: w,
-        entries: byte_at(input, at, 5) as usize,
-    }
-}
-
-// One strike, and one undo, of the session in play.
-fn strike_turn<W: Write>(
-    out: &mut W,
-    input: &[u8],
-    p: Play,
-    depths: &mut [u16],
-    labels: &mut [u32],
-    words: &mut [u32],
-) -> io::Result<Play> {
-    let at = p.at;
-    let d = least(p.depth_slots, depths.len());
-    let l = least(p.label_slots, labels.len());
-    let w = least(p.words, words.len());
-    let row = byte_at(input, at, 1) as usize;
-    let answer = journal::strike(
-        &mut depths[..d],
-        &mut labels[..l],
-        p.rows,
-        &mut words[..w],
-        p.entries,
-        row,
-    );
-    let next = settle(out, p, behind(input, at, 2), answer)?;
-    say_slots(out, &depths[..d], &labels[..l], &words[..w])?;
-    Ok(next)
-}
-
-fn undo_turn<W: Write>(
-    out: &mut W,
-    input: &[u8],
-    p: Play,
-    depths: &mut [u16],
-    labels: &mut [u32],
-    words: &mut [u32],
-) -> io::Result<Play> {
-    let at = p.at;
-    let d = least(p.depth_slots, depths.len());
-    let l = least(p.label_slots, labels.len());
-    let w = least(p.words, words.len());
-    let answer = journal::undo(
-        &mut depths[..d],
-        &mut labels[..l],
-        p.rows,
-        &mut words[..w],
-        p.entries,
-    );
-    let next = settle(out, p, behind(input, at, 1), answer)?;
-    say_slots(out, &depths[..d], &labels[..l], &words[..w])?;
-    Ok(next)
-}
-
-// One turn: a session begins, or a call is made.
-fn turn<W: Write>(
-    out: &mut W,
-    input: &[u8],
-    p: Play,
-    depths: &mut [u16],
-    labels: &mut [u32],
-    words: &mut [u32],
-) -> io::Result<Play> {
-    let at = p.at;
-    let op = byte_at(input, at, 0);
-    if op == 3 {
-        return Ok(begin(input, at, depths, labels, words));
-    }
-    if op == 1 {
-        return strike_turn(out, input, p, depths, labels, words);
-    }
-    undo_turn(out, input, p, depths, labels, words)
-}
-
-// All turns, until the input ends.
-fn play_all<W: Write>(
-    out: &mut W,
-    input: &[u8],
-    depths: &mut [u16],
-    labels: &mut [u32],
-    words: &mut [u32],
-) -> io::Result<()> {
-    let mut p = Play {
-        at: 0,
-        depth_slots: 0,
-        label_slots: 0,
-        rows: 0,
-        words: 0,
-        entries: 0,
-    };
-    for _ in 0..input.len() {
-        let at = p.at;
-        if input.len() <= at {
-            return Ok(());
+    // Takes over the counts that a call leaves, and writes its answer and a line with every slot.
+    fn settle<W: Write>(&mut self, out: &mut W, answer: Result<Counts, Refusal>) -> io::Result<()> {
+        match answer {
+            Ok(counts) => {
+                self.rows = counts.rows;
+                self.entries = counts.entries;
+                write!(out, "0 {} {} ", counts.rows, counts.entries)?;
+            }
+            Err(why) => write!(out, "{why} ")?,
         }
-        p = turn(out, input, p, depths, labels, words)?;
+        self.depths.say(out)?;
+        self.labels.say(out)?;
+        self.words.say(out)?;
+        out.write_all(b"\n")
     }
-    Ok(())
 }
 
 // Reads until the bytes are full or the input ends, and answers how many it read.
+// Its count goes on by as many as were read, so no `for` or iterator counts it; docs/DECISIONS.md says why each program has its own.
 fn read_full(input: &mut impl Read, bytes: &mut [u8]) -> io::Result<usize>
     ensures { IfOk result (λ n. n ≤ length bytes.new) }
 {
@@ -268,16 +144,37 @@ fn read_full(input: &mut impl Read, bytes: &mut [u8]) -> io::Result<usize>
 }
 
 fn main(rt: HostRuntime) -> io::Result<()> {
-    let mut input = [0u8; 65536];
-    let n = read_full(&mut rt.stdin(), &mut input)?;
-    let mut depths = [0u16; 80];
-    let mut labels = [0u32; 80];
-    let mut words = [0u32; 64];
-    play_all(
-        &mut rt.stdout(),
-        &input[..n],
-        &mut depths,
-        &mut labels,
-        &mut words,
-    )
+    let mut bytes = [0u8; 65536];
+    let n = read_full(&mut rt.stdin(), &mut bytes)?;
+    let mut play = Play {
+        depths: Slots {
+            all: [0; 80],
+            lent: 0,
+        },
+        labels: Slots {
+            all: [0; 80],
+            lent: 0,
+        },
+        words: Slots {
+            all: [0; 64],
+            lent: 0,
+        },
+        rows: 0,
+        entries: 0,
+    };
+    let mut out = rt.stdout();
+    let mut input = &bytes[..n];
+    while let Some((&op, rest)) = input.split_first() {
+        input = rest;
+        // The input says which call it is: there is nobody to hand over a closure.
+        match op {
+            3 => input = play.begin(input),
+            1 => {
+                play.strike(&mut out, usize::from(byte_at(input, 0)))?;
+                input = behind(input, 1);
+            }
+            _ => play.undo(&mut out)?,
+        }
+    }
+    Ok(())
 }

@@ -1,13 +1,14 @@
 -- Asking one chain more: what was asked stays, and there is room for each row once. Assumes nothing.
 use mathlib.Core.Path.{◌≡◌, refl, sym, ap, ◌∙◌}
 use mathlib.Core.Bool.{Bool, true, false, ◌&&◌}
-use mathlib.Core.List.{List}
-use Prim.Native.Nat.{ℕ, zero, suc, ◌+◌, ◌≤◌, ◌<◌}
+use mathlib.Core.List.{List, ◌∷◌, ◌++◌}
+use Prim.Native.Nat.{ℕ, zero, suc, ◌+◌, ◌-◌, ◌≤◌, ◌<◌}
 use native.Mathlib.Omega.{arith}
 use native.Mathlib.Decide.{dec_lt, ℕ_discrete}
 use lib.Dec.{ltb, eqb}
 use lib.ListN.{length, set, length-set}
 use lib.Seq.{get_or-set_same, get_or-set_other}
+use Rattle.std.proofs.lemmas.List.{set-append_left, set-append_right}
 use borrow.Author.Tests.{lt-ltb, ltb-true, eq-eqb, eqb-true}
 use Rattle.rows.specs.Rows.{tally, counted}
 use Rattle.rows.proofs.Tests.{both_true, same_test, tally_true, tally_false, tally_same}
@@ -111,10 +112,6 @@ asked_fewer m ws y z h k = record { size = k.size; rows = λ i l. k.rows i (omeg
 pub asked_more : (m n : ℕ) (ws : List ℕ) (z : ℕ) → m ≤ n → Asked m ws z → Asked n ws z
 asked_more m n ws z h k = record { size = k.size; rows = λ i l. omega (arith, k.rows i l); places = k.places }
 
--- nothing is asked: row 0, or a row that is asked already
-pub asks_none : (ws : List ℕ) (z y : ℕ) → (1 ≤ y → Member ws z y) → Asks ws z y ws z
-asks_none ws z y h = record { least = omega arith; most = omega arith; keep = λ i o. refl; asked = λ m a b k. k; member = h; path = refl }
-
 -- a new row y is asked at place z
 module _ (ws : List ℕ) (z y : ℕ) (size : length ws ≡ 513) (low : z < 256) (one : 1 ≤ y) (high : y ≤ 256) where
   abbrev more : List ℕ
@@ -154,6 +151,14 @@ module _ (ws : List ℕ) (z y : ℕ) (size : length ws ≡ 513) (low : z < 256) 
           rw (more_chain i (omega arith) (λ e. omega arith), more_other (chain ws i) (λ e. new (rw e at old))) p
       places m k i h (no l) = let e : i ≡ z = omega arith in rw (e, more_new) more_noted
 
+-- the words of a list of rows, of how many make the path, and of the places: a new row y is stored at place z
+pub stored : (rs : List ℕ) (p : ℕ) (ps : List ℕ) (z y : ℕ) → length rs ≡ 256 → z < 256 → 1 ≤ y
+    → set (set (rs ++ p ∷ ps) z y) (256 + y) z ≡ set rs z y ++ p ∷ set ps (y - 1) z
+stored rs p ps z y full low one =
+    let e : 256 + y - 256 ≡ suc (y - 1) = omega arith in
+    ap (λ (ws : List ℕ). set ws (256 + y) z) (set-append_left rs (p ∷ ps) z y (omega arith))
+    ∙ rw e at (set-append_right (set rs z y) (p ∷ ps) 256 (256 + y) z (length-set rs z y ∙ full) (omega arith))
+
 -- how many chains the path has is noted: what was asked stays
 module _ (m : ℕ) (few : m ≤ 256) (ws : List ℕ) (z k : ℕ) (a : Asked m ws z) where
   pub path_keep : Keep ws (set ws 256 k) z
@@ -179,9 +184,6 @@ member_kept m ws us z n y l k a h =
 
 -- corner by corner
 module _ (shape ws room : List ℕ) (base q : ℕ) where
-  pub extends_none : Extends shape ws room base q 0 ws q
-  extends_none = record { least = omega arith; most = omega arith; keep = λ i h. refl; asked = λ m a b k. k; member = λ i h. absurd (omega arith); path = refl }
-
   pub extends_one : (k : ℕ) (us vs : List ℕ) (n p : ℕ) → Extends shape ws room base q k us n → Asks us n (after shape room (base + k)) vs p → Asked 256 vs p
       → Extends shape ws room base q (suc k) vs p
   extends_one k us vs n p x a t =

@@ -6,6 +6,7 @@ use native.Mathlib.Omega.{arith}
 use native.Mathlib.Decide.{dec_lt, dec_le, ℕ_discrete}
 use lib.ListN.{length, get_or, drop, set, length-set}
 use lib.Seq.{get_or-set_same, drop-set-lt}
+use Rattle.std.proofs.Common.{Some, None}
 use Rattle.rows.specs.Rows.{at, Row, Outline, depth, descendants}
 use Rattle.rows.specs.Forest.{size}
 use Rattle.rows.proofs.DescendantLaws.{count_on}
@@ -14,13 +15,18 @@ use Rattle.matching.specs.Family.{parent, right_sibling, left_leaf}
 use Rattle.matching.specs.Asked.{chain, noted, Asked, Asks}
 use Rattle.matching.specs.CornerRow.{Chained}
 use Rattle.matching.specs.Shape.{Shape}
+use Rattle.matching.specs.Room.{recipe_of}
+use Rattle.matching.specs.Engine.{Ready}
 use Rattle.matching.specs.Path.{Path, OnPath, AsksNext, chained, asks, stops, Slot, stays, marked, Marks}
-use Rattle.matching.specs.Images.{Cleared}
 use Rattle.matching.proofs.Chains.{chained_deep}
 use Rattle.matching.proofs.Family.{parent_before, ParentView, root, child, parent_view}
 use Rattle.matching.proofs.Level.{Kids, leaf, child, kids_of, parent_child, Next, next, last, next_of, parent_next}
 use Rattle.matching.proofs.PathLaws.{path_tree}
 use Rattle.matching.proofs.Placing.{at_other}
+
+-- the recipe of a question has its shape
+pub shape_of : {ws rl td tl rd : List ℕ} → Ready ws rl td tl → recipe_of ws rl ≡ rd → Shape rd ws × Outline rd
+shape_of k e = (rw e at k.shape, rw e at k.outline)
 
 -- c is a child of row u
 abbrev pub Child : List ℕ → ℕ → ℕ → Type 0
@@ -63,11 +69,6 @@ next_child rd u c h o = go (next_of rd c h.0)
 abbrev pub rows_from : ℕ → ℕ → ℕ
 rows_from n zero = 0
 rows_from n (suc c) = n - c
-
-pub from_falls : (n c y : ℕ) → 1 ≤ c → c ≤ n → (1 ≤ y → c < y) → rows_from n y < rows_from n c
-from_falls n zero y a b l = absurd (omega arith)
-from_falls n (suc c) zero a b l = omega arith
-from_falls n (suc c) (suc y) a b l = omega (arith, l (omega arith))
 
 -- a row that is not among the k asked gets a place of its own
 module _ (asked us : List ℕ) (u k n : ℕ) (x : Asks asked k u us n) (one : 1 ≤ u) (fresh : (i : ℕ) → i < k → chain asked i ≡ u → ⊥) where
@@ -158,6 +159,12 @@ pub record Stood (rd asked m₀ m : List ℕ) (v u k i : ℕ) : Type 0 where
   pub spot : OnPath rd asked k i u
   pub up : chain asked 0 < parent rd u → 1 ≤ at m (parent rd u)
   pub marks : Marks rd asked k i m₀ m
+
+-- where no step is made, all is as it was
+pub asking_stop : {shape asked us : List ℕ} {u k most : ℕ} → AsksNext shape asked k most u us None → us ≡ asked
+asking_stop (chained e s z) = s
+asking_stop (asks n d o y z) = absurd cc
+asking_stop (stops d o s z) = s
 
 module _ (rd : List ℕ) (kr : Outline rd) (few : length rd ≤ 256) where
   -- a child is one deeper
@@ -306,25 +313,20 @@ module _ (rd : List ℕ) (kr : Outline rd) (few : length rd ≤ 256) where
           }
           )
 
-  -- so it is after one more step, or all is as it was
-  module _ (shape asked us m₀ m : List ℕ) (v u k i most n : ℕ) (h : Shape rd shape) (a : Asking rd asked m₀ m v u k i) (x : AsksNext shape asked k most u us n) where
-    pub asking_step : 1 ≤ descendants rd u → k ≤ most → (n ≡ 0 → ⊥) → (n ≤ most) × Stood rd us m₀ m v u n i
-    asking_step inner l some = go x
-      where
-        go : AsksNext shape asked k most u us n → (n ≤ most) × Stood rd us m₀ m v u n i
-        go (chained e s z) =
-            let r = a.chains.rows (k - 1) (omega (arith, a.some)) in
-            (omega arith, rw (s, z) (asking_chained asked m₀ m v u k i a inner (sym (h.leaves u a.row.1) ∙ e ∙ h.leaves (chain asked (k - 1)) r.1)))
-        go (asks d o y) = (omega (arith, asking_more asked m₀ m v u k i a inner us n y), asking_asked asked m₀ m v u k i a inner us n y)
-        go (stops d o s z) = absurd (some z)
-
-    pub asking_stop : 1 ≤ descendants rd u → n ≡ 0 → us ≡ asked
-    asking_stop inner e = go x
-      where
-        go : AsksNext shape asked k most u us n → us ≡ asked
-        go (chained c s z) = s
-        go (asks d o y) = absurd (omega (arith, asking_more asked m₀ m v u k i a inner us n y))
-        go (stops d o s z) = s
+  -- so it is after one more step
+  pub asking_step : (shape asked us m₀ m : List ℕ) (v u k i most n : ℕ) → Shape rd shape → Asking rd asked m₀ m v u k i → AsksNext shape asked k most u us (Some n)
+      → 1 ≤ descendants rd u → k ≤ most → (n ≤ most) × Stood rd us m₀ m v u n i
+  asking_step shape asked us m₀ m v u k i most n h a x inner l = go x
+    where
+      go : AsksNext shape asked k most u us (Some n) → (n ≤ most) × Stood rd us m₀ m v u n i
+      go (chained e s z) =
+          let q : n ≡ k = cc in
+          let r = a.chains.rows (k - 1) (omega (arith, a.some)) in
+          rw (s, q) (l, asking_chained asked m₀ m v u k i a inner (sym (h.leaves u a.row.1) ∙ e ∙ h.leaves (chain asked (k - 1)) r.1))
+      go (asks n' d o y z) =
+          let q : n ≡ n' = cc in
+          rw q (omega (arith, asking_more asked m₀ m v u k i a inner us n' y), asking_asked asked m₀ m v u k i a inner us n' y)
+      go (stops d o s z) = absurd cc
 
   -- it gets its mark, and a child of it is next
   pub asking_next : (asked m₀ m : List ℕ) (v u k i w : ℕ) → length rd ≤ length m₀ → Stood rd asked m₀ m v u k i → Child rd u w
@@ -364,18 +366,6 @@ module _ (rd : List ℕ) (kr : Outline rd) where
       go (leaf n s) = absurd (omega (arith, leaf_bare rd kr u r s))
       go (child q d n s) = sym s
 
-  pub chaining_first : (m : List ℕ) → Row rd 1 → 1 ≤ descendants rd 1 → Chaining rd m m 1
-  chaining_first m r o =
-      let c = first_child rd kr 1 r o in
-      record {
-        one = omega arith;
-        row = c.0;
-        on = (omega arith, child_leaf 1 r o);
-        over = c.1;
-        up = λ h. absurd (omega arith);
-        marks = marks_none rd (1 ∷ []) 1 m;
-      }
-
   pub chaining_next : (m₀ m : List ℕ) (i : ℕ) → length rd ≤ length m₀ → Chaining rd m₀ m i → 1 ≤ descendants rd (suc i) → Chaining rd m₀ (set m i i) (suc i)
   chaining_next m₀ m i room a o =
       let c = first_child rd kr (suc i) a.row o in
@@ -400,27 +390,3 @@ module _ (rd : List ℕ) (kr : Outline rd) where
             deep = omega (arith, chained_deep rd kr 1 (omega (arith, a.row)) (suc i) a.on);
             high = λ h. absurd (omega arith);
           }
-
--- the rows up to i are cleared, then row i + 1
-pub record ClearedTo (rd m₀ m : List ℕ) (i : ℕ) : Type 0 where
-  pub size : length m ≡ length m₀
-  pub rest : drop (length rd) m ≡ drop (length rd) m₀
-  pub none : (c : ℕ) → c ≤ i → at m c ≡ 0
-
-pub cleared_none : (rd m : List ℕ) → ClearedTo rd m m 0
-cleared_none rd m = record { size = refl; rest = refl; none = λ c h. let e : c ≡ 0 = omega arith in rw e }
-
-pub cleared_one : (rd m₀ m : List ℕ) (i : ℕ) → length rd ≤ length m₀ → i < length rd → ClearedTo rd m₀ m i → ClearedTo rd m₀ (set m i 0) (suc i)
-cleared_one rd m₀ m i room l h =
-    record {
-      size = length-set m i 0 ∙ h.size;
-      rest = drop-set-lt (length rd) m i 0 l ∙ h.rest;
-      none = λ c b. none c b (dec_le c i);
-    }
-  where
-    none : (c : ℕ) → c ≤ suc i → Dec (c ≤ i) → at (set m i 0) c ≡ 0
-    none c b (yes o) = at_other m i 0 c (λ e. omega arith) ∙ h.none c o
-    none c b (no o) = let e : c ≡ suc i = omega arith in rw e (get_or-set_same m i 0 0 (omega (arith, h.size)))
-
-pub cleared_all : (rd m₀ m : List ℕ) (i : ℕ) → length rd ≤ i → ClearedTo rd m₀ m i → Cleared rd m₀ m
-cleared_all rd m₀ m i l h = record { size = h.size; rest = h.rest; none = λ c b. h.none c (omega arith) }

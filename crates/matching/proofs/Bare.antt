@@ -2,14 +2,15 @@
 -- that the recipe has. Assumes nothing.
 use mathlib.Core.Path.{◌≡◌}
 use mathlib.Core.List.{List}
-use Prim.Native.Nat.{ℕ, suc, ◌≤◌, ◌<◌}
+use Prim.Native.Nat.{ℕ, suc, ◌≤◌, ◌<◌, ◌-◌}
 use native.Mathlib.Omega.{arith}
 use native.Mathlib.Decide.{dec_le}
 use lib.ListN.{length}
+use Rattle.std.specs.Prelude.{Bool, Option, Some, None, true}
 use Rattle.rows.specs.Rows.{at, Row, depth, last_row}
 use Rattle.rows.proofs.Depths.{last_fits, inside_deeper, deeper_inside}
 use Rattle.matching.specs.Shape.{Foreign}
-use Rattle.matching.specs.Engine.{Bare}
+use Rattle.matching.specs.Engine.{TreeEnd, Bare}
 
 -- what holds of the rows behind lo up to n, and of the next, holds of one row more
 one_more : (P : ℕ → Type 0) (lo n : ℕ) → ((y : ℕ) → lo < y → y ≤ n → P y) → P (suc n) → (y : ℕ) → lo < y → y ≤ suc n → P y
@@ -25,9 +26,6 @@ pub record Walk (Such : ℕ → Type 0) (td : List ℕ) (first n : ℕ) : Type 0
   pub fits : n ≤ length td
   pub rows : (y : ℕ) → suc first < y → y ≤ n → (depth td (suc first) < depth td y) × Such y
 
-pub walk_none : (Such : ℕ → Type 0) (td : List ℕ) (first : ℕ) → first < length td → Walk Such td first (suc first)
-walk_none Such td first h = record { start = omega arith; fits = h; rows = λ y a b. absurd (omega arith) }
-
 module _ {Such : ℕ → Type 0} {td : List ℕ} {first n : ℕ} (w : Walk Such td first n) where
   row : Row td (suc first)
   row = (omega arith, omega (arith, w.start, w.fits))
@@ -42,23 +40,12 @@ module _ {Such : ℕ → Type 0} {td : List ℕ} {first n : ℕ} (w : Walk Such 
           absurd (omega (arith, stop (omega (arith, last_fits td (suc first) row)), inside_deeper td (suc first) (suc n) (omega arith) (omega (arith, w.start)) (omega arith)))
 
   module _ (h : n < length td) (d : depth td (suc first) < depth td (suc n)) where
-    -- it goes on behind a deeper row that is such
-    pub walk_on : Such (suc n) → Walk Such td first (suc n)
-    walk_on f =
-        record {
-          start = omega (arith, w.start);
-          fits = h;
-          rows = one_more (λ (y : ℕ). (depth td (suc first) < depth td y) × Such y) (suc first) n w.rows (d, f);
-        }
-
     -- a deeper row is in the tree
     pub walk_in : suc n ≤ last_row td (suc first)
     walk_in = deeper_inside td (suc first) (suc n) row (omega (arith, w.start)) h (one_more (λ (y : ℕ). depth td (suc first) < depth td y) (suc first) n (λ y a b. (w.rows y a b).0) d)
 
--- where the rows below have labels of kinds that the recipe has not, the row is bare at the walk's end, and is not at another row below
-module _ {ws td tl : List ℕ} {first n : ℕ} (w : Walk (λ y. Foreign ws (at tl y)) td first n) where
-  pub bare_end_lem : (n < length td → depth td (suc n) ≤ depth td (suc first)) → Bare ws td tl first n
-  bare_end_lem stop = record { last = λ o. walk_end w stop; foreign = λ o y a b. (w.rows y a b).1; more = λ e. absurd (omega (arith, w.start)) }
-
-  pub bare_not : n < length td → depth td (suc first) < depth td (suc n) → Bare ws td tl first 0
-  bare_not h d = record { last = λ o. absurd (omega arith); foreign = λ o. absurd (omega arith); more = λ e. omega (arith, w.start, walk_in w h d) }
+-- where the test tells that a label is of a kind that the recipe has not, the row is bare at the end that it finds
+pub bare_end_lem : (T : ℕ → Bool → Type 0) (ws td tl : List ℕ) (first : ℕ) (r : Option ℕ) → TreeEnd T td first r
+    → ((y : ℕ) → suc first < y → y ≤ last_row td (suc first) → T (y - 1) true → Foreign ws (at tl y)) → Bare ws td tl first r
+bare_end_lem T ws td tl first (Some r) e foreign = record { last = e.last; foreign = λ y a b. foreign y a (omega (arith, e.last)) (e.tested y a b) }
+bare_end_lem T ws td tl first None e foreign = e

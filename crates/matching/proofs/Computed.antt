@@ -25,7 +25,8 @@ use Rattle.matching.specs.Answer.{Answers}
 use Rattle.matching.specs.declared.Answer.{Answer}
 use Rattle.matching.specs.declared.Answer.TheVariants as answer
 use Rattle.matching.specs.declared.Corner.{Corner}
-use Rattle.matching.specs.declared.tables.Tables.TheVariants.{Fine}
+use Rattle.matching.specs.declared.Refusal.{Refusal}
+use Rattle.std.specs.Prelude.{Result, Ok}
 use Rattle.matching.proofs.Refusals.{tables_fine}
 use Rattle.matching.proofs.CornerLaws.{corner_at_lem, whole_iff}
 use Rattle.matching.proofs.TreeRow.{tree_row}
@@ -104,7 +105,7 @@ module _ (rd rl td tl : List ℕ) where
         )
 
     tree_out : (v : ℕ) → Row rd v → (f : Forest ℕ) → tree_in v f ≡ false → LiesIn Fit (cons v (below rd v) nil) f → ⊥
-    tree_out v r f e i = let t = (tree_in_lem v r f).1 i in let z : ◌≡◌ {A = ℕ} 0 1 = cc in omega arith
+    tree_out v r f e i = let t = (tree_in_lem v r f).1 i in cc
 
     -- the search comes to the first row to close, where a row from lo to hi holds v and no tree among these ends behind them
     image_first : (v : ℕ) → Row rd v → (n lo hi : ℕ) → 1 ≤ lo → hi ≤ length td → Closed td lo hi → HeldIn Fit rd td v lo hi → hi < lo + n
@@ -164,14 +165,14 @@ module _ (rd rl td tl : List ℕ) where
         )
 
     -- and the computed outcome meets the contract
-    meets : (m : List ℕ) → length rd ≤ length m → Answers rd rl td tl m computed (written ++ drop (length written) m)
+    meets : (m : List ℕ) → length rd ≤ length m → Answers rd rl td tl m (Ok computed) (written ++ drop (length written) m)
     meets m h = go is_whole refl
       where
         i : CornerIs Fit rd td corner.width corner.row
         i = corner_at_lem Fit rd td kr g.recipe_some kt (same_label rl tl) (same_right rl tl) (corner_in 1 (forest td)) refl
 
         go : (t : Bool) → is_whole ≡ t
-            → Answers rd rl td tl m (answer_as t corner) (written_as t (images (length rd)) ++ drop (length (written_as t (images (length rd)))) m)
+            → Answers rd rl td tl m (Ok (answer_as t corner)) (written_as t (images (length rd)) ++ drop (length (written_as t (images (length rd)))) m)
         go true e =
             let y = whole_test.0 e in
             let p = placed ((whole_iff Fit rd td kr g.recipe_some kt corner.width corner.row i).0 y) (length rd) (omega arith) in
@@ -182,15 +183,15 @@ module _ (rd rl td tl : List ℕ) where
               (k, record { count = p.0; each = λ v r. p.1 v r r.1 }, ap (λ (x : ℕ). k ++ drop x m) p.0),
             )
         go false e =
-            (check_fine rd rl td tl m ((tables_fine rd rl td tl).1 g) h, i, λ p. let t = whole_test.1 p in let z : ◌≡◌ {A = ℕ} 0 1 = cc in omega arith, refl)
+            (check_fine rd rl td tl m ((tables_fine rd rl td tl).1 g) h, i, λ p. let t = whole_test.1 p in cc, refl)
 
   -- the tables are good, and the computed answer and images are these
   abbrev pub Computed : Answer → List ℕ → Type 0
-  Computed a ms = (tables_check rd rl td tl ≡ Fine) × (computed ≡ a) × (written ≡ ms)
+  Computed a ms = (tables_check rd rl td tl ≡ Ok tt) × (computed ≡ a) × (written ≡ ms)
 
   -- then an outcome meets the contract just if it is that answer, with those images in front of the old slots
-  pub answer_is : (a : Answer) (ms : List ℕ) → Computed a ms → (m : List ℕ) → length rd ≤ length m → (r : Answer) (n : List ℕ)
-      → Answers rd rl td tl m r n ↔ ((r ≡ a) × (n ≡ ms ++ drop (length ms) m))
+  pub answer_is : (a : Answer) (ms : List ℕ) → Computed a ms → (m : List ℕ) → length rd ≤ length m → (r : Result Answer Refusal) (n : List ℕ)
+      → Answers rd rl td tl m r n ↔ ((r ≡ Ok a) × (n ≡ ms ++ drop (length ms) m))
   answer_is a ms c m h r n =
       let k = rw (c.1, c.2) at (meets ((tables_fine rd rl td tl).0 c.0) m h) in
-      (λ b. answer_one rd rl td tl m r a n (ms ++ drop (length ms) m) b k, λ b. subst₂ (Answers rd rl td tl m) (sym b.0) (sym b.1) k)
+      (λ b. answer_one rd rl td tl m r (Ok a) n (ms ++ drop (length ms) m) b k, λ b. subst₂ (Answers rd rl td tl m) (sym b.0) (sym b.1) k)

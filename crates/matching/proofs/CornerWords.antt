@@ -27,11 +27,11 @@ module _ (rl : List ℕ) (v l name : ℕ) (e : l ≡ at rl v) where
   named_other : (l ≡ name → ⊥) → named rl v name ≡ false
   named_other h = ne_eqb (at rl v) name (λ q. h (e ∙ q))
 
-module _ (rd ws rl : List ℕ) (k : Shape rd ws) (x name w : ℕ) (hx : x ≤ length rd) (hw : w ≤ length rd) where
+module _ {rd ws : List ℕ} (rl : List ℕ) (name : ℕ) (k : Shape rd ws) {x w : ℕ} (hx : x ≤ length rd) (hw : w ≤ length rd) where
   abbrev Closed : ℕ
   Closed = close_row (named rl) rd x name w
 
-  module _ (v l : ℕ) (ev : v ≡ word 2 ws x) (el : l ≡ at rl v) (none : w ≡ 0) where
+  module _ {v l : ℕ} (ev : v ≡ word 2 ws x) (el : l ≡ at rl v) (none : w ≡ 0) where
     leaf : v ≡ left_leaf rd x
     leaf = ev ∙ k.leaves x hx
 
@@ -41,7 +41,7 @@ module _ (rd ws rl : List ℕ) (k : Shape rd ws) (x name w : ℕ) (hx : x ≤ le
     pub words_empty : (l ≡ name → ⊥) → 0 ≡ Closed
     words_empty h = sym (close_empty (named rl) rd x name w none (rw leaf at (named_other rl v l name el h)))
 
-  module _ (d e : ℕ) (ed : d ≡ word 3 ws w) (ee : e ≡ word 3 ws x) (some : w ≡ 0 → ⊥) where
+  module _ {d e : ℕ} (ed : d ≡ word 3 ws w) (ee : e ≡ word 3 ws x) (some : w ≡ 0 → ⊥) where
     one : 1 ≤ w
     one = omega arith
 
@@ -54,7 +54,7 @@ module _ (rd ws rl : List ℕ) (k : Shape rd ws) (x name w : ℕ) (hx : x ≤ le
     pub words_top : d ≡ e → w ≡ Closed
     words_top h = sym (close_top (named rl) rd x name w one (sym deep ∙ h ∙ from))
 
-    module _ (low : d ≡ e → ⊥) (s : ℕ) (es : s ≡ word 1 ws w) where
+    module _ (low : d ≡ e → ⊥) {s : ℕ} (es : s ≡ word 1 ws w) where
       lower : depth rd w ≡ depth rd x → ⊥
       lower h = low (deep ∙ h ∙ sym from)
 
@@ -64,7 +64,7 @@ module _ (rd ws rl : List ℕ) (k : Shape rd ws) (x name w : ℕ) (hx : x ≤ le
       pub words_wide : (s ≡ 0 → ⊥) → w ≡ Closed
       words_wide h = sym (close_wide (named rl) rd x name w one lower (λ q. h (right ∙ q)))
 
-      module _ (last : s ≡ 0) (v l : ℕ) (ev : v ≡ word 0 ws w) (el : l ≡ at rl v) where
+      module _ (last : s ≡ 0) {v l : ℕ} (ev : v ≡ word 0 ws w) (el : l ≡ at rl v) where
         up : v ≡ parent rd w
         up = ev ∙ k.parents w hw
 
@@ -74,11 +74,11 @@ module _ (rd ws rl : List ℕ) (k : Shape rd ws) (x name w : ℕ) (hx : x ≤ le
         pub words_other : (l ≡ name → ⊥) → w ≡ Closed
         words_other h = sym (close_other (named rl) rd x name w one lower (sym right ∙ last) (rw up at (named_other rl v l name el h)))
 
-module _ (rd ws : List ℕ) (k : Shape rd ws) (a b w : ℕ) (ha : a ≤ length rd) (hb : b ≤ length rd) (hw : w ≤ length rd) where
+module _ {rd ws : List ℕ} (k : Shape rd ws) {a b w : ℕ} (ha : a ≤ length rd) (hb : b ≤ length rd) (hw : w ≤ length rd) where
   pub words_none : a ≡ 0 → b ≡ join_row rd a b w
   words_none h = sym (join_empty rd a b w h)
 
-  module _ (some : a ≡ 0 → ⊥) (d : ℕ) (ed : d ≡ word 3 ws a) where
+  module _ (some : a ≡ 0 → ⊥) {d : ℕ} (ed : d ≡ word 3 ws a) where
     here : d ≡ depth rd a
     here = ed ∙ k.depths a ha
 
@@ -115,7 +115,7 @@ module _ (ws rl : List ℕ) (name : ℕ) where
   alone_fits x h = alone_case (λ b. b ≤ length rd) x (omega arith) (leaf_within rd x h)
 
   -- so it is no higher than a corner on the same chain, and only the corner on the chain after that one can widen it
-  module _ (k : Shape rd ws) (x a : ℕ) (on : OnChain rd x a) where
+  module _ (k : Shape rd ws) {x a : ℕ} (on : OnChain rd x a) where
     pub after_fits : word 1 ws a ≤ length rd
     after_fits = omega (arith, k.rights a on.row, right_fits rd a)
 
@@ -125,7 +125,7 @@ module _ (ws rl : List ℕ) (name : ℕ) where
     pub alone_none : a ≡ 0 → alone ws rl name x ≡ Joined
     alone_none h = sym (join_empty rd a _ _ h)
 
-    module _ (some : a ≡ 0 → ⊥) (y : ℕ) (ey : y ≡ word 1 ws a) where
+    module _ (some : a ≡ 0 → ⊥) {y : ℕ} (ey : y ≡ word 1 ws a) where
       abbrev w : ℕ
       w = alone ws rl name y
 
@@ -143,7 +143,7 @@ module _ (ws rl : List ℕ) (name : ℕ) where
 
       kept : ((1 ≤ w) × (word 3 ws w ≡ word 3 ws a) → ⊥) → a ≡ Joined
       kept h =
-          words_kept rd ws k a (alone ws rl name x) w on.row (alone_fits x on.asks) (alone_fits y hy) some (word 3 ws a) refl low h
+          words_kept k on.row (alone_fits x on.asks) (alone_fits y hy) some refl low h
           ∙ ap (λ (z : ℕ). join_row rd a (alone ws rl name x) (alone ws rl name z)) ey
 
       -- there is no chain after the corner's
@@ -172,7 +172,7 @@ module _ (ws rl : List ℕ) (name : ℕ) where
               behind l (no e) = omega arith
 
       -- it is a leaf
-      module _ (one : y ≡ 0 → ⊥) (is : word 2 ws y ≡ y) (l : ℕ) (el : l ≡ at rl y) where
+      module _ (one : y ≡ 0 → ⊥) (is : word 2 ws y ≡ y) {l : ℕ} (el : l ≡ at rl y) where
         itself : left_leaf rd y ≡ y
         itself = sym (k.leaves y hy) ∙ is
 
@@ -181,7 +181,7 @@ module _ (ws rl : List ℕ) (name : ℕ) where
             let e : w ≡ y = close_new (named rl) rd y name 0 refl (rw itself (named_same rl y l name el h)) ∙ itself in
             let d = right_deep rd a (omega arith, on.row) (omega (arith, k.rights a on.row)) in
             let q : word 3 ws y ≡ word 3 ws a = k.depths y hy ∙ ap (depth rd) (ey ∙ k.rights a on.row) ∙ d ∙ sym (k.depths a on.row) in
-            words_wider rd ws k a (alone ws rl name x) y on.row (alone_fits x on.asks) hy some (word 3 ws a) refl low (omega arith, q)
+            words_wider k on.row (alone_fits x on.asks) hy some refl low (omega arith, q)
             ∙ ap (join_row rd a (alone ws rl name x)) (sym e)
             ∙ ap (λ (z : ℕ). join_row rd a (alone ws rl name x) (alone ws rl name z)) ey
 

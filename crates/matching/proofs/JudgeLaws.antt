@@ -1,17 +1,18 @@
 -- The plain judge: its search tells inclusion, and its contract leaves one answer. Assumes nothing.
 use mathlib.Core.Path.{◌≡◌, refl}
-use mathlib.Core.Bool.{Bool, true}
+use mathlib.Core.Bool.{Bool, true, false, false≢true}
 use mathlib.Core.List.{List}
 use mathlib.Core.Logic.{◌↔◌}
 use Prim.Native.Nat.{ℕ}
 use lib.ListN.{length}
+use Rattle.std.specs.Prelude.{Result, Ok, Err}
 use Rattle.rows.specs.Forest.{forest}
 use Rattle.rows.specs.Embedding.{SameLabel, Included}
 use Rattle.rows.proofs.Inclusion.{included_iff}
-use Rattle.matching.specs.declared.Judgement.{Judgement}
-use Rattle.matching.specs.declared.Judgement.TheVariants as judged
-use Rattle.matching.specs.Refusals.{GoodTables}
+use Rattle.matching.specs.declared.Refusal.{Refusal}
+use Rattle.matching.specs.Refusals.{GoodTables, tables_check}
 use Rattle.matching.specs.Judge.{Judged, Tells}
+use Rattle.matching.proofs.Refusals.{tables_fine}
 use Rattle.matching.proofs.Search.{draws_forest}
 
 module _ (rd rl td tl : List ℕ) where
@@ -24,14 +25,22 @@ module _ (rd rl td tl : List ℕ) where
       let included = included_iff (SameLabel rl tl) rd td recipe listing in
       (λ e. included.1 (lies.0 e), λ i. lies.1 (included.0 i))
 
-  -- two judgements that meet the contract are equal
-  pub judge_one : (r s : Judgement) → Judged rd rl td tl r → Judged rd rl td tl s → r ≡ s
-  judge_one judged.Included judged.Included h k = refl
-  judge_one judged.Included judged.Absent h k = absurd (k.1 h.1)
-  judge_one judged.Included (judged.Refused y) h k = cc
-  judge_one judged.Absent judged.Included h k = absurd (h.1 k.1)
-  judge_one judged.Absent judged.Absent h k = refl
-  judge_one judged.Absent (judged.Refused y) h k = cc
-  judge_one (judged.Refused x) judged.Included h k = cc
-  judge_one (judged.Refused x) judged.Absent h k = cc
-  judge_one (judged.Refused x) (judged.Refused y) h k = cc
+  -- so it is the judge's answer
+  pub judged : tables_check rd rl td tl ≡ Ok tt → (r : Bool) → Tells rd rl 0 (length rd) td tl 0 (length td) r → Judged rd rl td tl (Ok r)
+  judged fine r told = go r (tells_included ((tables_fine rd rl td tl).0 fine) r told)
+    where
+      go : (r : Bool) → (r ≡ true) ↔ Included (SameLabel rl tl) rd td → Judged rd rl td tl (Ok r)
+      go true i = (fine, i.0 refl)
+      go false i = (fine, λ h. false≢true (i.1 h))
+
+  -- two answers of the judge that meet the contract are equal
+  pub judge_one : (r s : Result Bool Refusal) → Judged rd rl td tl r → Judged rd rl td tl s → r ≡ s
+  judge_one (Ok true) (Ok true) h k = refl
+  judge_one (Ok true) (Ok false) h k = absurd (k.1 h.1)
+  judge_one (Ok true) (Err y) h k = cc
+  judge_one (Ok false) (Ok true) h k = absurd (h.1 k.1)
+  judge_one (Ok false) (Ok false) h k = refl
+  judge_one (Ok false) (Err y) h k = cc
+  judge_one (Err x) (Ok true) h k = cc
+  judge_one (Err x) (Ok false) h k = cc
+  judge_one (Err x) (Err y) h k = cc

@@ -1,5 +1,4 @@
 -- The laws about the definitions, for this crate's proofs and for other crates.
-pub mod Alone
 pub mod AnswerLaws
 pub mod AskedLaws
 pub mod Asking
@@ -39,6 +38,7 @@ pub mod Refusals
 pub mod Scan
 pub mod Search
 pub mod Seeking
+pub mod ShapeWords
 pub mod Siblings
 pub mod Sides
 pub mod Standing

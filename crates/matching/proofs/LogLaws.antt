@@ -10,7 +10,7 @@ use borrow.Author.Tests.{le-leb, lt-leb}
 use Rattle.rows.specs.Limits.{listing_rows}
 use Rattle.rows.specs.Rows.{at}
 use Rattle.matching.specs.Path.{log_bytes, logged, topped, Put, Blank}
-use Rattle.matching.proofs.PathLaws.{kept_wide, kept_both, kept_none, kept_one}
+use Rattle.matching.proofs.PathLaws.{kept_none}
 use Rattle.matching.proofs.Placing.{at_other}
 
 -- six bits of one byte are those of the first rows, the upper two of three bytes those of the others
@@ -155,16 +155,3 @@ module _ (ls : List ℕ) (n : length ls ≡ log_bytes) (place k : ℕ) (low : pl
 -- no row has got the place of no row yet, ..
 pub blank_none : (ls : List ℕ) (first k : ℕ) → length ls ≡ log_bytes → Blank ls first first k ls
 blank_none ls first k n = record { none = λ o y a b. absurd (omega arith); kept = kept_none ls (suc first) first n }
-
--- .. or one row more has
-pub blank_one : (ls : List ℕ) (first r k : ℕ) (ms os : List ℕ) → first ≤ r → Blank ls first r k ms → Put ms r 63 k os → Blank ls first (suc r) k os
-blank_one ls first r k ms os h b p =
-    record {
-      none = λ o y i j. go o y i (ℕ_discrete y (suc r)) j;
-      kept = kept_both ls (suc first) (suc r) ms os (kept_wide ls (suc first) r (suc first) (suc r) ms (omega arith) (omega arith) b.kept)
-          (kept_wide ms (suc r) (suc r) (suc first) (suc r) os (omega arith) (omega arith) (kept_one ms r 63 k os (suc r) (omega arith) p));
-    }
-  where
-    go : 1 ≤ k → (y : ℕ) → first < y → Dec (y ≡ suc r) → y ≤ suc r → logged os y ≡ 63
-    go o y i (yes e) j = rw e (p.here o)
-    go o y i (no n) j = p.others y n ∙ b.none o y i (omega arith)

@@ -5,23 +5,22 @@ use mathlib.Core.Logic.{◌↔◌}
 use Prim.Native.Nat.{ℕ, ◌+◌, ◌-◌, ◌≤◌, ◌<◌}
 use native.Mathlib.Omega.{arith}
 use native.Mathlib.Decide.{dec_le}
-use lib.ListN.{length, get_or}
-use Rattle.rows.specs.Limits.{listing_rows}
+use lib.ListN.{length, set, length-set}
+use lib.Seq.{get_or-set_same}
 use Rattle.rows.specs.Rows.{at, Row, Outline, depth, descendants, last_row}
 use Rattle.rows.specs.Forest.{Forest, size, forest_at, forest}
 use Rattle.rows.specs.Embedding.{SameLabel}
 use Rattle.rows.proofs.Depths.{inside_deeper}
 use Rattle.rows.proofs.Windows.{stands_forest, size_forest}
 use Rattle.matching.specs.Family.{right_sibling, left_leaf}
-use Rattle.matching.specs.Asked.{chain, path_chains}
+use Rattle.matching.specs.Asked.{chain, path_chains, Asked, Asks}
 use Rattle.matching.specs.EarliestClose.{Holds}
 use Rattle.matching.specs.Placing.{FirstIn}
 use Rattle.matching.specs.Shape.{word}
-use Rattle.matching.specs.Path.{log_bytes, Path}
+use Rattle.matching.specs.Path.{Path}
 use Rattle.matching.specs.Room.{recipe_of, room_words}
-use Rattle.matching.specs.Engine.{Ready, Begins, Sought, Passed, Known, corner_of}
-use Rattle.matching.proofs.Alone.{ask_alone, alone_chain, alone_path, begins_alone, forest_top}
-use Rattle.matching.proofs.Asking.{inner_row}
+use Rattle.matching.specs.Engine.{Ready, Begins, Sought, Found, KnownAt, corner_of}
+use Rattle.matching.proofs.Asking.{inner_row, asks_more, asks_new}
 use Rattle.matching.proofs.Foreign.{leafless}
 use Rattle.matching.proofs.Held.{held_iff}
 use Rattle.matching.proofs.LeftLeaf.{leaf_within}
@@ -31,6 +30,7 @@ use Rattle.matching.proofs.PathLaws.{told_same}
 use Rattle.matching.proofs.Scan.{leaf_held}
 use Rattle.matching.proofs.TreeJoins.{corner_of_fits}
 use Rattle.matching.proofs.Width.{length_words}
+use Rattle.matching.proofs.Written.{room_one, room_below}
 
 -- row 1 has no right sibling: no other row is a root
 only_row : (rd : List ℕ) → Outline rd → right_sibling rd 1 ≡ 0 → (w : ℕ) → Row rd w → depth rd w ≡ 0 → w ≡ 1
@@ -88,27 +88,31 @@ one_row_corner ws rl td tl k one r few found = go (dec_le 1 r)
         (λ y a b q. o (found.1 (y, omega (arith, n, k.names), ap (at rl) (sym leaf) ∙ q))) in
         omega (arith, e)
 
--- nothing is known of row 1's image by 0
-pub known_none : {ws rl td tl ls : List ℕ} → Known ws rl td tl ls 0
-known_none = record { first = λ o. absurd (omega arith); path = λ o. absurd (omega arith); told = λ o. absurd (omega arith) }
-
 -- row 1 alone is asked, and l rows are sought: that row, where it is the only root and has rows below it, or none
-module _ {ws rl td tl : List ℕ} (k : Ready ws rl td tl) (one : 1 ≤ length (recipe_of ws rl)) (xs : List ℕ) (size-asked : length xs ≡ 513) {l : ℕ} (noted : path_chains xs ≡ l)
-    (rows : (l ≤ 1) × ((1 ≤ l) ↔ ((word 1 ws 1 ≡ 0) × (word 2 ws 1 ≡ 1 → ⊥)))) where
+module _ {ws rl td tl : List ℕ} (k : Ready ws rl td tl) (one : 1 ≤ length (recipe_of ws rl)) {l : ℕ} (rows : (l ≤ 1) × ((1 ≤ l) ↔ ((word 1 ws 1 ≡ 0) × (word 2 ws 1 ≡ 1 → ⊥))))
+    (old : List ℕ) {xs us : List ℕ} {n : ℕ} (noted : xs ≡ set old 256 l) (asks : (length xs ≡ 513) × Asks xs 0 1 us n) where
   abbrev rd : List ℕ
   rd = recipe_of ws rl
 
-  abbrev asked : List ℕ
-  asked = ask_alone xs 1 size-asked (omega arith)
+  few : length old ≡ 513
+  few = omega (arith, length-set old 256 l, ap length noted, asks.0)
 
-  first : chain asked 0 ≡ 1
-  first = alone_chain xs 1 size-asked (omega arith)
+  path : path_chains us ≡ l
+  path = asks.1.path ∙ ap path_chains noted ∙ get_or-set_same old 256 l 0 (omega (arith, few))
 
-  path : path_chains asked ≡ l
-  path = alone_path xs 1 size-asked (omega arith) (omega arith) ∙ noted
+  fresh : (j : ℕ) → j < 0 → chain xs j ≡ 1 → ⊥
+  fresh j h e = omega arith
+
+  first : chain us 0 ≡ 1
+  first = asks_new xs us 1 0 n asks.1 (omega arith) fresh
 
   row : Row rd 1
   row = (omega arith, one)
+
+  chains : Asked (length rd) us 1
+  chains =
+      rw (asks_more xs us 1 0 n asks.1 (omega arith) fresh) at
+      (asks.1.asked (length rd) k.shape.few one (record { size = asks.0; rows = λ i h. absurd (omega arith); places = λ i h. absurd (omega arith) }))
 
   inner : 1 ≤ l → 1 ≤ descendants rd 1
   inner o = inner_row rd k.outline 1 row (λ e. (rows.1.0 o).1 (k.shape.leaves 1 one ∙ e))
@@ -124,43 +128,34 @@ module _ {ws rl td tl : List ℕ} (k : Ready ws rl td tl) (one : 1 ≤ length (r
         down = λ i h. absurd (omega (arith, rows.0));
       }
 
-  pub first_sought : Sought ws rl asked 1 (path_chains asked)
-  first_sought = rw path record { some = omega arith; few = rows.0; path = first_path asked first }
+  pub first_sought : Sought ws rl us 1 (path_chains us)
+  first_sought = rw path record { some = omega arith; few = rows.0; path = first_path us first }
 
-  pub first_begins : {rs : List ℕ} → length rs ≡ room_words → (d : ℕ) → Begins ws rl asked rs 0 1 d
-  first_begins n d = begins_alone xs 1 size-asked (omega arith) ws rl _ d k.shape.few row n
+  pub first_begins : {rs : List ℕ} → length rs ≡ room_words → (d : ℕ) → Begins ws rl us rs 0 1 d
+  first_begins w d =
+      record { chains = chains; words = w; room = room_below (length rd) 1 (64 - d) 64 room_words (omega arith) (room_one (length rd) 1 k.shape.few (omega arith)) }
 
   -- what the pass says of the whole listing
-  module _ (n : 0 < length td) {rs ls us ss ms : List ℕ} {r : ℕ}
-      (p : Passed ws rl td tl asked rs ls 0 1 (λ i. corner_of ws rl tl (forest_at td 0 (depth td 1)) (chain asked i)) (path_chains asked) 0 (0 + size (forest_at td 0 (depth td 1))) r us ss ms) where
-    abbrev Sizes : Type 0
-    Sizes = (length us ≡ 513) × (length ss ≡ room_words) × (length ms ≡ log_bytes)
+  module _ (some : 0 < length td) where
+    abbrev top : Forest ℕ
+    top = forest_at td 0 (depth td 1)
 
-    all : forest_at td 0 (depth td 1) ≡ forest td
-    all = forest_top td k.listing.outline n
+    all : top ≡ forest td
+    all = ap (forest_at td 0) (k.listing.outline.first (omega arith))
 
-    pub first_through : r ≤ listing_rows → (get_or ss 0 0 ≡ corner_of ws rl tl (forest td) 1) × Sizes
-    first_through o =
-        let t = (p.through o).1 in (
-          t.ends.corners 0 (omega arith)
-              ∙ ap (corner_of ws rl tl (forest_at td 0 (depth td 1))) first
-              ∙ ap (λ (g : Forest ℕ). corner_of ws rl tl g 1) all,
-          (t.ends.chains.size, t.ends.words, t.kept.size),
-        )
-
-    pub first_found : listing_rows < r → (1 ≡ corner_of ws rl tl (forest td) 1) × Known ws rl td tl ms (r - listing_rows) × Sizes
-    first_found o =
-        let g = (rw path at p).found o in
-        let last : 0 + size (forest_at td 0 (depth td 1)) ≡ length td = omega (arith, ap size all, size_forest td k.listing.outline) in
+    pub first_found : {ls vs ss ms : List ℕ} {t : ℕ} → Found ws rl td tl us ls (path_chains us) 0 (0 + size top) t vs ss ms
+        → (1 ≡ corner_of ws rl tl (forest td) 1) × KnownAt ws rl td tl ms t
+    first_found {ls} {vs} {ss} {ms} {t} f =
+        let g = rw path at f in
+        let last : 0 + size top ≡ length td = omega (arith, ap size all, size_forest td k.listing.outline) in
         let h = rw (first, last) at g.found in
         let e : l ≡ 1 = omega (arith, g.some, rows.0) in (
-          only_corner ws rl td tl k one (only g.some) _ h,
+          only_corner ws rl td tl k one (only g.some) t h,
           record {
-            first = λ i. h;
-            path = λ i. rw e at (first_path (1 ∷ []) refl);
-            told = λ i y a b.
+            first = h;
+            path = rw e at (first_path (1 ∷ []) refl);
+            told = λ y a b.
                 rw e at
-                (told_same (SameLabel rl tl) rd td (1 ∷ []) asked l ms y (λ j n. let z : j ≡ 0 = omega (arith, rows.0) in rw z first) (g.logged.told y a b));
+                (told_same (SameLabel rl tl) rd td (1 ∷ []) us l ms y (λ j n. let z : j ≡ 0 = omega (arith, rows.0) in rw z first) (g.logged.told y a b));
           },
-          (g.words.0.size, g.words.1, g.logged.kept.size),
         )

@@ -1,14 +1,14 @@
 -- A tree of the listing whose rows all bear one label: on a chain whose left-most leaf has it, and the row which that leaf needs next has not, its
 -- corner is that leaf, as its first row's alone is. Assumes nothing.
 use mathlib.Core.Path.{◌≡◌, refl, sym, ap, ap₂, ◌∙◌}
-use mathlib.Core.Bool.{Bool}
 use mathlib.Core.List.{List}
 use mathlib.Core.Logic.{◌⊎◌, inl, inr, ⊎_elim}
-use Prim.Native.Nat.{ℕ, zero, suc, ◌+◌, ◌≤◌, ◌<◌}
+use Prim.Native.Nat.{ℕ, zero, suc, ◌+◌, ◌-◌, ◌≤◌, ◌<◌}
 use native.Mathlib.Omega.{arith}
 use native.Mathlib.Decide.{dec_le, ℕ_discrete}
 use lib.ListN.{length, get_or}
 use borrow.Author.Tests.{eq-eqb, ne_eqb}
+use Rattle.std.specs.Prelude.{Bool, Option, Some, None, true}
 use Rattle.rows.specs.Rows.{at, Row, depth, descendants, last_row}
 use Rattle.rows.specs.Forest.{Forest, nil, cons, size, below}
 use Rattle.rows.specs.Stands.{Stands}
@@ -21,10 +21,9 @@ use Rattle.matching.specs.Shape.{word, Shape}
 use Rattle.matching.specs.Asked.{chain, Asked, Extends}
 use Rattle.matching.specs.Path.{Within}
 use Rattle.matching.specs.Room.{recipe_of, named, same_label, alone, joined_alone, Written}
-use Rattle.matching.specs.Engine.{Ready, LeafAsked, next_row, PairAsked, OneLabel, PlainTree, tree_at, corner_of}
+use Rattle.matching.specs.Engine.{Ready, LeafAsked, next_row, PairAsked, TreeEnd, OneLabel, tree_at, corner_of}
 use Rattle.matching.proofs.AskedLaws.{after_asked}
 use Rattle.matching.proofs.Asking.{leaf_bare}
-use Rattle.matching.proofs.Bare.{Walk, walk_end}
 use Rattle.matching.proofs.Chains.{leaf_least}
 use Rattle.matching.proofs.CornerRow.{corners_zero, close_new, close_empty, close_top, close_wide, close_other, join_empty, join_kept}
 use Rattle.matching.proofs.CornerWords.{parent_labelled}
@@ -36,34 +35,24 @@ use Rattle.matching.proofs.Passes.{chain_low, level_lies}
 use Rattle.matching.proofs.TreeJoins.{corner_of_fits, alone_none}
 use Rattle.matching.proofs.Width.{length_words}
 
--- a walk over rows that all bear the label of the first ends with such a tree
-pub one_label : {td tl : List ℕ} {first n : ℕ} → Walk (λ y. at tl y ≡ at tl (suc first)) td first n
-    → (n < length td → depth td (suc n) ≤ depth td (suc first)) → OneLabel td tl first n
-one_label {td} {tl} {first} {n} w stop = record { last = λ o. walk_end w stop; same = λ o y a b. go y a b (dec_le y (suc first)) }
+-- where the test tells that a row bears the label of the first, the rows up to the end that it finds all do
+pub one_label : (T : ℕ → Bool → Type 0) (td tl : List ℕ) (first : ℕ) (r : Option ℕ) → TreeEnd T td first r
+    → ((y : ℕ) → suc first < y → y ≤ last_row td (suc first) → T (y - 1) true → at tl y ≡ at tl (suc first)) → OneLabel td tl first r
+one_label T td tl first (Some r) e same = record { last = e.last; same = λ y a b. go y a b (dec_le y (suc first)) }
   where
-    go : (y : ℕ) → first < y → y ≤ n → Dec (y ≤ suc first) → at tl y ≡ at tl (suc first)
-    go y a b (yes i) = let e : y ≡ suc first = omega arith in ap (at tl) e
-    go y a b (no i) = (w.rows y (omega arith) b).1
+    go : (y : ℕ) → first < y → y ≤ r → Dec (y ≤ suc first) → at tl y ≡ at tl (suc first)
+    go y a b (yes i) = let d : y ≡ suc first = omega arith in ap (at tl) d
+    go y a b (no i) = same y (omega arith) (omega (arith, e.last)) (e.tested y (omega arith) b)
+one_label T td tl first None e same = tt
 
--- nothing is said of a tree by 0
-pub no_label : {td tl : List ℕ} {first : ℕ} → OneLabel td tl first 0
-no_label = record { last = λ o. absurd (omega arith); same = λ o. absurd (omega arith) }
-
-pub not_plain : {ws rl td tl us : List ℕ} {z first : ℕ} {joins : Bool} → PlainTree ws rl td tl us z first 0 joins
-not_plain = record { tree = no_label; alone = λ o. absurd (omega arith); idle = λ o. absurd (omega arith) }
-
--- of the chains before place i: gain is 1 where P holds of one of them, else 0; Q holds of none of those
-pub record Gained (P Q : ℕ → Type 0) (i gain : ℕ) : Type 0 where
-  pub few : gain ≤ 1
-  pub some : 1 ≤ gain → (j : ℕ) × (j < i) × P j
-  pub all : (j : ℕ) → j < i → P j → 1 ≤ gain
+-- of the chains before place i: P holds of one of them where `joins` says so; Q holds of none of those
+pub record Gained (P Q : ℕ → Type 0) (i : ℕ) (joins : Bool) : Type 0 where
+  pub some : joins ≡ true → (j : ℕ) × (j < i) × P j
+  pub all : (j : ℕ) → j < i → P j → joins ≡ true
   pub none : (j : ℕ) → j < i → P j → Q j → ⊥
 
-pub gained_none : {P Q : ℕ → Type 0} → Gained P Q 0 0
-gained_none = record { few = omega arith; some = λ o. absurd (omega arith); all = λ j l. absurd (omega arith); none = λ j l. absurd (omega arith) }
-
 -- one chain more
-module _ {P Q : ℕ → Type 0} {i gain : ℕ} (g : Gained P Q i gain) where
+module _ {P Q : ℕ → Type 0} {i : ℕ} {joins : Bool} (g : Gained P Q i joins) where
   before_or : (R : ℕ → Type 0) → ((j : ℕ) → j < i → R j) → R i → (j : ℕ) → j < suc i → R j
   before_or R all here j l = go (dec_le i j)
     where
@@ -71,21 +60,14 @@ module _ {P Q : ℕ → Type 0} {i gain : ℕ} (g : Gained P Q i gain) where
       go (yes o) = let e : j ≡ i = omega arith in rw e here
       go (no o) = all j (omega arith)
 
-  pub gained_more : P i → (Q i → ⊥) → Gained P Q (suc i) 1
-  gained_more p n =
-      record {
-        few = omega arith;
-        some = λ o. (i, omega arith, p);
-        all = λ j l q. omega arith;
-        none = before_or (λ (j : ℕ). P j → Q j → ⊥) g.none (λ q. n);
-      }
+  pub gained_more : P i → (Q i → ⊥) → Gained P Q (suc i) true
+  gained_more p n = record { some = λ o. (i, omega arith, p); all = λ j l q. refl; none = before_or (λ (j : ℕ). P j → Q j → ⊥) g.none (λ q. n) }
 
-  pub gained_same : (P i → ⊥) → Gained P Q (suc i) gain
+  pub gained_same : (P i → ⊥) → Gained P Q (suc i) joins
   gained_same n =
       record {
-        few = g.few;
         some = λ o. let (j, l, p) = g.some o in (j, omega arith, p);
-        all = before_or (λ (j : ℕ). P j → 1 ≤ gain) g.all (λ p. absurd (n p));
+        all = before_or (λ (j : ℕ). P j → joins ≡ true) g.all (λ p. absurd (n p));
         none = before_or (λ (j : ℕ). P j → Q j → ⊥) g.none (λ p. absurd (n p));
       }
 

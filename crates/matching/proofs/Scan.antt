@@ -40,12 +40,13 @@ module _ (ds : List ℕ) (k : Outline ds) (P : ℕ → Type 0) (from : ℕ) wher
         go (yes i) = i
         go (no i) = let e : last_row ds h ≡ r = omega arith in absurd (omega (arith, rw e at (after_shallow ds h (omega arith))))
 
-    pub scanned_hit : (h stop : ℕ) → stop ≤ depth ds (suc r) → Scanned ds P from r h stop → P (suc r) → Scanned ds P from (suc r) (suc r) (suc (depth ds (suc r)))
-    scanned_hit _ _ d (none n) p = upon (suc r) (omega arith) (omega arith) (omega arith) p (λ y a b q. omega arith) (λ y a b q. absurd (n y a (omega arith) q))
-    scanned_hit _ _ d (upon h a b c q clean first) p =
+    pub scanned_hit : (h stop : ℕ) → stop ≤ depth ds (suc r) → Scanned ds P from r h stop → P (suc r) → {h' stop' : ℕ} → h' ≡ suc r → stop' ≡ suc (depth ds (suc r))
+        → Scanned ds P from (suc r) h' stop'
+    scanned_hit _ _ d (none n) p e s = rw (e, s) (upon (suc r) (omega arith) (omega arith) (omega arith) p (λ y a b q. omega arith) (λ y a b q. absurd (n y a (omega arith) q)))
+    scanned_hit _ _ d (upon h a b c q clean first) p e s' =
         let i = below_last h a b c d in
         let s = ((window ds k h (suc r) (omega arith) (omega arith)).1 (omega arith, i)).2 in
-        upon (suc r) (omega arith) (omega arith) (omega arith) p (λ y u v w. omega arith) (λ y u v w. go s y u v w (compared y h))
+        rw (e, s') (upon (suc r) (omega arith) (omega arith) (omega arith) p (λ y u v w. omega arith) (λ y u v w. go s y u v w (compared y h)))
       where
         go : closing ds (suc r) < closing ds h → (y : ℕ) → from < y → y < suc r → P y → Compared y h → closing ds (suc r) ≤ closing ds y
         go s y u v w (less o) = omega (arith, first y u o w)
@@ -112,11 +113,11 @@ module _ (Fit : ℕ → ℕ → Type 0) (rd td : List ℕ) (kr : Outline rd) (kt
       let i = holds_iff Fit rd td kr kt v t r s in
       (λ h. (i.0 h).0, λ f. i.1 (f, rw below_none done))
 
-  pub first_fit : (lo t : ℕ) → 1 ≤ lo → FirstIn td (Fit v) lo (length td) t → FirstIn td (Holds Fit rd td v) lo (length td) t
+  pub first_fit : (lo t : ℕ) → 1 ≤ lo → FirstIn td (λ y. Fit v y × Unit {0}) lo (length td) t → FirstIn td (Holds Fit rd td v) lo (length td) t
   first_fit lo t one f =
       record {
         low = f.low;
         high = f.high;
-        holds = (leaf_held t (omega (arith, f.low, f.high))).1 f.holds;
-        first = λ y a b h. f.first y a b ((leaf_held y (omega arith)).0 h);
+        holds = (leaf_held t (omega (arith, f.low, f.high))).1 f.holds.0;
+        first = λ y a b h. f.first y a b ((leaf_held y (omega arith)).0 h, tt);
       }

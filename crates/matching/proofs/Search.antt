@@ -21,10 +21,6 @@ module _ (ds ls : List ℕ) where
   pub searchable_table : length ds ≡ length ls → Searchable ds ls 0 (length ds)
   searchable_table e = record { slices = e; order = omega arith; inside = omega arith; whole = λ v a b. last_fits ds v (omega arith) }
 
-  -- .. and so can the later ones of rows that can; ..
-  pub searchable_rest : (z e x : ℕ) → Searchable ds ls z e → z ≤ x → x ≤ e → Searchable ds ls x e
-  searchable_rest z e x k a b = record { slices = k.slices; order = b; inside = k.inside; whole = λ v i j. k.whole v (omega arith) j }
-
   -- .. the tree at one of them, which ends at y, ends among them, and the rows below that one can be searched
   module _ (z e v y : ℕ) (k : Searchable ds ls z e) (a : z < v) (b : v ≤ e) (last : y ≡ last_row ds v) where
     pub tree_ends : (v ≤ y) × (y ≤ e)

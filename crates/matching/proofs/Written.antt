@@ -1,5 +1,5 @@
 -- Writing the room word by word, and reading the recipe back from its shape. Assumes nothing.
-use mathlib.Core.Path.{◌≡◌, refl, sym, ap, ◌∙◌}
+use mathlib.Core.Path.{◌≡◌, sym, ap, ◌∙◌}
 use mathlib.Core.Bool.{true, false}
 use mathlib.Core.List.{List}
 use lib.Dec.{eqb}
@@ -14,9 +14,6 @@ use Rattle.matching.specs.Asked.{noted}
 use Rattle.matching.specs.Room.{room_words, Written, room_for, following}
 
 module _ (rs : List ℕ) (base : ℕ) (value : ℕ → ℕ) where
-  pub written_none : Written rs base 0 value rs
-  written_none = record { size = refl; new = λ i h. absurd (omega arith); before = λ j h. refl; after = λ j h. refl }
-
   pub written_one : (i : ℕ) (ss : List ℕ) (v : ℕ) → base + i < length rs → Written rs base i value ss → v ≡ value i → Written rs base (suc i) value (set ss (base + i) v)
   written_one i ss v h w e =
       record {

@@ -1,5 +1,7 @@
 -- What the two corner functions do: the corners of the chains asked, of a forest and of a tree that joins. Assumes nothing.
-use Rattle.std.specs.Prelude.{◌≡◌, Bool, true, false, List, [], ◌∷◌, ℕ, suc, ◌+◌, ◌-◌, ◌≤◌, ◌<◌, eqb, length, get_or}
+use Rattle.std.specs.Prelude.{◌≡◌, ◌↔◌, Bool, true, false, Option, Some, None, IfSome, List, [], ◌∷◌, ℕ, suc, ◌+◌, ◌-◌, ◌≤◌, ◌<◌, eqb, length, get_or}
+use Rattle.std.specs.declared.ops.ControlFlow.{ControlFlow}
+use Rattle.std.specs.declared.ops.ControlFlow.TheVariants.{Continue, Break}
 use Rattle.rows.specs.Limits.{listing_rows, deepest}
 use Rattle.rows.specs.Rows.{at, Row, depth, descendants, last_row, Outline, WellFormed}
 use Rattle.rows.specs.Forest.{Forest, nil, cons, below}
@@ -12,6 +14,7 @@ use Rattle.matching.specs.EarliestClose.{Holds}
 use Rattle.matching.specs.Placing.{HeldIn, FirstIn}
 use Rattle.matching.specs.Path.{Path, Told, Kept, Logged}
 use Rattle.matching.specs.Room.{room_words, room_for, recipe_of, same_label}
+use Rattle.matching.specs.declared.plain.Plain.{Plain}
 
 -- the shape and labels of a recipe, and the depths and labels of a listing, are whole
 pub record Ready (ws rl td tl : List ℕ) : Type 0 where
@@ -71,18 +74,31 @@ pub record Through (ws rl td tl asked rs ls : List ℕ) (base q : ℕ) (value : 
   pub told : (y : ℕ) → first < y → y ≤ last → Told (SameLabel rl tl) (recipe_of ws rl) td asked k ms y
   pub kept : Kept ls (suc first) last ms
 
--- how a pass ends, as one number: up to a listing's limit it is how many rows stand before the end of a pass that went through; beyond it,
--- how much beyond is the row found
-pub record Passed (ws rl td tl asked rs ls : List ℕ) (base q : ℕ) (value : ℕ → ℕ) (k first last r : ℕ) (us ss ms : List ℕ) : Type 0 where
-  pub through : r ≤ listing_rows → (r ≡ last) × Through ws rl td tl asked rs ls base q value k first last us ss ms
-  pub found : listing_rows < r → Found ws rl td tl asked ls k first last (r - listing_rows) us ss ms
+-- how a pass ends: it breaks with the row found, or it went through and goes on behind row `last`
+abbrev pub Passed : (ws rl td tl asked rs ls : List ℕ) (base q : ℕ) (value : ℕ → ℕ) (k first last : ℕ) → ControlFlow ℕ ℕ → (us ss ms : List ℕ) → Type 0
+Passed ws rl td tl asked rs ls base q value k first last (Continue r) us ss ms =
+    (r ≡ last) × Through ws rl td tl asked rs ls base q value k first last us ss ms
+Passed ws rl td tl asked rs ls base q value k first last (Break t) us ss ms = Found ws rl td tl asked ls k first last t us ss ms
 
--- the listing row behind `first` rows is bare if all rows below it have labels of kinds that the recipe has not: then r is the last of
--- them, else 0
-pub record Bare (ws td tl : List ℕ) (first r : ℕ) : Type 0 where
-  pub last : 1 ≤ r → r ≡ last_row td (suc first)
-  pub foreign : 1 ≤ r → (y : ℕ) → suc first < y → y ≤ r → Foreign ws (at tl y)
-  pub more : r ≡ 0 → 1 ≤ descendants td (suc first)
+-- a test of all rows below the listing row behind `first` rows, by how many rows stand before them, goes well, and r is the last of them
+pub record TreeTo (Tested : ℕ → Bool → Type 0) (td : List ℕ) (first r : ℕ) : Type 0 where
+  pub last : r ≡ last_row td (suc first)
+  pub tested : (y : ℕ) → suc first < y → y ≤ r → Tested (y - 1) true
+
+-- so it is where a row is given; else there are rows below it
+abbrev pub TreeEnd : (Tested : ℕ → Bool → Type 0) (td : List ℕ) (first : ℕ) → Option ℕ → Type 0
+TreeEnd Tested td first (Some r) = TreeTo Tested td first r
+TreeEnd Tested td first None = 1 ≤ descendants td (suc first)
+
+-- all rows below the listing row behind `first` rows have labels of kinds that the recipe has not, and r is the last of them
+pub record BareTo (ws td tl : List ℕ) (first r : ℕ) : Type 0 where
+  pub last : r ≡ last_row td (suc first)
+  pub foreign : (y : ℕ) → suc first < y → y ≤ r → Foreign ws (at tl y)
+
+-- such a row is bare; one that is not has rows below it
+abbrev pub Bare : (ws td tl : List ℕ) (first : ℕ) → Option ℕ → Type 0
+Bare ws td tl first (Some r) = BareTo ws td tl first r
+Bare ws td tl first None = 1 ≤ descendants td (suc first)
 
 -- the left-most leaf of one of the first z chains asked has the label a
 abbrev pub LeafAsked : List ℕ → List ℕ → List ℕ → ℕ → ℕ → Type 0
@@ -97,20 +113,38 @@ abbrev pub PairAsked : List ℕ → List ℕ → List ℕ → ℕ → ℕ → Ty
 PairAsked ws rl asked z a =
     (i : ℕ) × (i < z) × (at rl (word 2 ws (chain asked i)) ≡ a) × (at rl (next_row ws (word 2 ws (chain asked i))) ≡ a)
 
--- the rows of the tree of the listing row behind `first` rows all bear one label: then r is the last of them, or 0. It is always 0 where they
--- do not
-pub record OneLabel (td tl : List ℕ) (first r : ℕ) : Type 0 where
-  pub last : 1 ≤ r → r ≡ last_row td (suc first)
-  pub same : 1 ≤ r → (y : ℕ) → first < y → y ≤ r → at tl y ≡ at tl (suc first)
+-- whether there is such a leaf is given, unless there is such a pair
+abbrev pub Gain : (ws rl asked : List ℕ) (z a : ℕ) → Option Bool → Type 0
+Gain ws rl asked z a (Some joins) = ((joins ≡ true) ↔ LeafAsked ws rl asked z a) × (PairAsked ws rl asked z a → ⊥)
+Gain ws rl asked z a None = PairAsked ws rl asked z a
+
+-- the rows of the tree of the listing row behind `first` rows all bear one label, and r is the last of them
+pub record OneLabelTo (td tl : List ℕ) (first r : ℕ) : Type 0 where
+  pub last : r ≡ last_row td (suc first)
+  pub same : (y : ℕ) → first < y → y ≤ r → at tl y ≡ at tl (suc first)
+
+-- so it is where a row is given
+abbrev pub OneLabel : (td tl : List ℕ) (first : ℕ) → Option ℕ → Type 0
+OneLabel td tl first (Some r) = OneLabelTo td tl first r
+OneLabel td tl first None = Unit {0}
 
 -- such a tree gives the first z chains asked no more than its first row alone; where it does not join, it gives them nothing
-pub record PlainTree (ws rl td tl asked : List ℕ) (z first r : ℕ) (joins : Bool) : Type 0 where
-  pub tree : OneLabel td tl first r
-  pub alone : 1 ≤ r → PairAsked ws rl asked z (at tl (suc first)) → ⊥
-  pub idle : 1 ≤ r → joins ≡ false → LeafAsked ws rl asked z (at tl (suc first)) → ⊥
+pub record PlainTo (ws rl td tl asked : List ℕ) (z first : ℕ) (p : Plain) : Type 0 where
+  pub tree : OneLabelTo td tl first p.end
+  pub alone : PairAsked ws rl asked z (at tl (suc first)) → ⊥
+  pub idle : p.joins ≡ false → LeafAsked ws rl asked z (at tl (suc first)) → ⊥
 
--- t is 0, or the first listing row to close that holds recipe row 1, and then the log tells of its tree and of row 1's chain
-pub record Known (ws rl td tl ls : List ℕ) (t : ℕ) : Type 0 where
-  pub first : 1 ≤ t → FirstIn td (Holds (SameLabel rl tl) (recipe_of ws rl) td 1) 1 (length td) t
-  pub path : 1 ≤ t → Path (recipe_of ws rl) (1 ∷ []) 1
-  pub told : 1 ≤ t → (y : ℕ) → t ≤ y → y ≤ last_row td t → Told (SameLabel rl tl) (recipe_of ws rl) td (1 ∷ []) 1 ls y
+-- so it is where a tree is given
+abbrev pub PlainTree : (ws rl td tl asked : List ℕ) (z first : ℕ) → Option Plain → Type 0
+PlainTree ws rl td tl asked z first (Some p) = PlainTo ws rl td tl asked z first p
+PlainTree ws rl td tl asked z first None = Unit {0}
+
+-- t is the first listing row to close that holds recipe row 1, and the log tells of its tree and of row 1's chain
+pub record KnownAt (ws rl td tl ls : List ℕ) (t : ℕ) : Type 0 where
+  pub first : FirstIn td (Holds (SameLabel rl tl) (recipe_of ws rl) td 1) 1 (length td) t
+  pub path : Path (recipe_of ws rl) (1 ∷ []) 1
+  pub told : (y : ℕ) → t ≤ y → y ≤ last_row td t → Told (SameLabel rl tl) (recipe_of ws rl) td (1 ∷ []) 1 ls y
+
+-- so it is where a row is given
+abbrev pub Known : (ws rl td tl ls : List ℕ) → Option ℕ → Type 0
+Known ws rl td tl ls t = IfSome t (KnownAt ws rl td tl ls)

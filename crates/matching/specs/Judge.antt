@@ -1,19 +1,17 @@
 -- Document 01, "A plain judge that tries every candidate row": what it answers, and what its search tells. Assumes nothing.
-use Rattle.std.specs.Prelude.{◌≡◌, Bool, true, List, ◌↔◌, ℕ, ◌+◌, ◌≤◌, ◌<◌, length}
+use Rattle.std.specs.Prelude.{◌≡◌, Bool, true, false, List, ◌↔◌, ℕ, ◌+◌, ◌≤◌, ◌<◌, length, Result, Ok, Err}
 use Rattle.rows.specs.Rows.{last_row}
 use Rattle.rows.specs.Forest.{Forest, size}
 use Rattle.rows.specs.Stands.{Stands}
 use Rattle.rows.specs.Embedding.{SameLabel, Included, LiesIn}
-use Rattle.matching.specs.declared.Judgement.{Judgement}
-use Rattle.matching.specs.declared.Judgement.TheVariants as judged
-use Rattle.matching.specs.declared.tables.Tables.TheVariants.{Fine, Refused}
+use Rattle.matching.specs.declared.Refusal.{Refusal}
 use Rattle.matching.specs.Refusals.{tables_check}
 
--- what a judgement says of the tables: the listing includes the recipe, or it does not, or the first refusal holds
-abbrev pub Judged : List ℕ → List ℕ → List ℕ → List ℕ → Judgement → Type 0
-Judged rd rl td tl judged.Included = (tables_check rd rl td tl ≡ Fine) × Included (SameLabel rl tl) rd td
-Judged rd rl td tl judged.Absent = (tables_check rd rl td tl ≡ Fine) × (Included (SameLabel rl tl) rd td → ⊥)
-Judged rd rl td tl (judged.Refused x) = tables_check rd rl td tl ≡ Refused x
+-- what the judge says of the tables: the listing includes the recipe, or it does not, or the first refusal holds
+abbrev pub Judged : List ℕ → List ℕ → List ℕ → List ℕ → Result Bool Refusal → Type 0
+Judged rd rl td tl (Ok true) = (tables_check rd rl td tl ≡ Ok tt) × Included (SameLabel rl tl) rd td
+Judged rd rl td tl (Ok false) = (tables_check rd rl td tl ≡ Ok tt) × (Included (SameLabel rl tl) rd td → ⊥)
+Judged rd rl td tl (Err x) = tables_check rd rl td tl ≡ Err x
 
 -- the rows after row z up to row e are whole trees of a table, each with its label
 pub record Searchable (ds ls : List ℕ) (z e : ℕ) : Type 0 where

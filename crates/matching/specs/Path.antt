@@ -1,6 +1,6 @@
 -- A path down the recipe, and the log in which a pass notes for each listing row which rows of the path its tree includes.
 -- Assumes nothing.
-use Rattle.std.specs.Prelude.{◌≡◌, true, false, List, ℕ, suc, ◌+◌, ◌-◌, ◌*◌, ◌/◌, ◌%◌, ◌≤◌, ◌<◌, leb, length, get_or, set, drop}
+use Rattle.std.specs.Prelude.{◌≡◌, true, false, Option, Some, None, List, ℕ, suc, ◌+◌, ◌-◌, ◌*◌, ◌/◌, ◌%◌, ◌≤◌, ◌<◌, leb, length, get_or, set, drop}
 use Rattle.rows.specs.Limits.{listing_rows}
 use Rattle.rows.specs.Rows.{at, Row, depth, descendants, last_row, Ancestor, LeftOf}
 use Rattle.matching.specs.Family.{parent}
@@ -34,12 +34,12 @@ pub record PathAsked (rd asked : List ℕ) (k : ℕ) : Type 0 where
   pub path : Path rd asked k
   pub room : room_for (length rd) k (64 - depth rd (chain asked 0)) ≤ room_words
 
--- of the chains us, n are asked: the k of ws, where u has the left-most leaf of the last of them; else row u too, or n is 0 and all as it was
--- where that would be more than `most`
-pub data AsksNext (shape ws : List ℕ) (k most u : ℕ) (us : List ℕ) (n : ℕ) : Type 0 where
-  chained : word 2 shape u ≡ word 2 shape (chain ws (k - 1)) → us ≡ ws → n ≡ k → AsksNext shape ws k most u us n
-  asks : (word 2 shape u ≡ word 2 shape (chain ws (k - 1)) → ⊥) → k < most → Asks ws k u us n → AsksNext shape ws k most u us n
-  stops : (word 2 shape u ≡ word 2 shape (chain ws (k - 1)) → ⊥) → most ≤ k → us ≡ ws → n ≡ 0 → AsksNext shape ws k most u us n
+-- of the chains us, so many are asked: the k of ws, where u has the left-most leaf of the last of them; else row u too, or none where that
+-- would be more than `most`, and all is as it was
+pub data AsksNext (shape ws : List ℕ) (k most u : ℕ) (us : List ℕ) (r : Option ℕ) : Type 0 where
+  chained : word 2 shape u ≡ word 2 shape (chain ws (k - 1)) → us ≡ ws → r ≡ Some k → AsksNext shape ws k most u us r
+  asks : (n : ℕ) → (word 2 shape u ≡ word 2 shape (chain ws (k - 1)) → ⊥) → k < most → Asks ws k u us n → r ≡ Some n → AsksNext shape ws k most u us r
+  stops : (word 2 shape u ≡ word 2 shape (chain ws (k - 1)) → ⊥) → most ≤ k → us ≡ ws → r ≡ None → AsksNext shape ws k most u us r
 
 -- the tree at listing row t includes recipe row v with all its descendants
 abbrev pub Within : (ℕ → ℕ → Type 0) → List ℕ → List ℕ → ℕ → ℕ → Type 0

@@ -1,14 +1,13 @@
 -- Document 01, "Numbers of refusal": the refusals 1 to 10 of a question about a recipe and a listing, in their order. Assumes nothing.
-use Rattle.std.specs.Prelude.{Bool, true, false, not, ◌≡◌, List, ℕ, ◌≤◌, eqb, ltb, length}
+use Rattle.std.specs.Prelude.{Bool, true, false, not, ◌≡◌, List, ℕ, ◌≤◌, eqb, ltb, length, ◌∷◌, ◌++◌, Result, Ok, Err}
+use Rattle.std.specs.Fmt.{decimal}
 use Rattle.rows.specs.Limits.{recipe_rows, listing_rows}
 use Rattle.rows.specs.Rows.{WellFormed}
 use Rattle.rows.specs.FirstBad.{first_bad}
-use Rattle.rows.specs.declared.RowCheck.{RowCheck}
-use Rattle.rows.specs.declared.RowCheck.TheVariants as found
+use Rattle.rows.specs.declared.BadRow.{BadRow}
+use Rattle.rows.specs.declared.BadRow.TheVariants.{Step, TooDeep}
 use Rattle.matching.specs.declared.Refusal.{Refusal}
 use Rattle.matching.specs.declared.Refusal.TheVariants.{RecipeSlices, RecipeEmpty, RecipeLong, RecipeStep, RecipeDeep, ListingSlices, ListingLong, ListingStep, ListingDeep, MapShort}
-use Rattle.matching.specs.declared.tables.Tables.{Tables}
-use Rattle.matching.specs.declared.tables.Tables.TheVariants.{Fine, Refused}
 
 -- document 01's number of a refusal
 abbrev pub refusal_number : Refusal → ℕ
@@ -36,19 +35,40 @@ refusal_place (ListingStep v) = v
 refusal_place (ListingDeep v) = v
 refusal_place MapShort = 0
 
+-- both as document 01's line has them, in decimal with a space between
+abbrev pub number_and_place : Refusal → List ℕ
+number_and_place refusal = decimal (refusal_number refusal) ++ (32 ∷ decimal (refusal_place refusal))
+
+-- a check goes through, or gives a refusal
+abbrev pub Checked : Type 0
+Checked = Result (Unit {0}) Refusal
+
 -- refused where a test holds, else what comes next
-abbrev pub refused_if : Bool → Refusal → Tables → Tables
-refused_if true x next = Refused x
+abbrev pub refused_if : Bool → Refusal → Checked → Checked
+refused_if true x next = Err x
 refused_if false x next = next
 
--- what the row check means: its bad step and its depth over 63, each a refusal with its row
-abbrev pub bad_row : (ℕ → Refusal) → (ℕ → Refusal) → RowCheck → Tables
-bad_row step deep found.Fine = Fine
-bad_row step deep (found.BadStep v) = Refused (step v)
-bad_row step deep (found.TooDeep v) = Refused (deep v)
+-- what the first bad row means: its bad step and its depth over 63, each a refusal with its row
+abbrev pub bad_row : (ℕ → Refusal) → (ℕ → Refusal) → Result (Unit {0}) BadRow → Checked
+bad_row step deep (Ok u) = Ok tt
+bad_row step deep (Err (Step v)) = Err (step v)
+bad_row step deep (Err (TooDeep v)) = Err (deep v)
+
+-- what may come of row v is the refusal that is meant for it
+abbrev pub Gives : (ℕ → Refusal → Type 0) → (ℕ → Refusal) → Type 0
+Gives comes meant = (v : ℕ) (x : Refusal) → comes v x → x ≡ meant v
+
+-- a table's refusals in their order, with what is said of a table without rows
+unfoldable pub table_check : Refusal → Checked → ℕ → Refusal → (ℕ → Refusal) → (ℕ → Refusal) → List ℕ → List ℕ → Checked
+table_check slices empty most long step deep ds ls =
+    refused_if (not (eqb (length ds) (length ls))) slices
+    (elim (eqb (length ds) 0) [
+      | true ↦ empty
+      | false ↦ refused_if (ltb most (length ds)) long (bad_row step deep (first_bad ds))
+    ])
 
 -- the refusals 1 to 5
-unfoldable pub recipe_check : List ℕ → List ℕ → Tables
+unfoldable pub recipe_check : List ℕ → List ℕ → Checked
 recipe_check rd rl =
     refused_if (not (eqb (length rd) (length rl))) RecipeSlices
     (refused_if (eqb (length rd) 0) RecipeEmpty
@@ -56,19 +76,19 @@ recipe_check rd rl =
     (bad_row RecipeStep RecipeDeep (first_bad rd))))
 
 -- the refusals 6 to 9
-unfoldable pub listing_check : List ℕ → List ℕ → Tables
+unfoldable pub listing_check : List ℕ → List ℕ → Checked
 listing_check td tl =
     refused_if (not (eqb (length td) (length tl))) ListingSlices
     (refused_if (ltb listing_rows (length td)) ListingLong
     (bad_row ListingStep ListingDeep (first_bad td)))
 
 -- the recipe's refusals, and where there is none the listing's
-abbrev pub first : Tables → Tables → Tables
-first Fine next = next
-first (Refused x) next = Refused x
+abbrev pub first : Checked → Checked → Checked
+first (Ok u) next = next
+first (Err x) next = Err x
 
 -- the refusals 1 to 9
-abbrev pub tables_check : List ℕ → List ℕ → List ℕ → List ℕ → Tables
+abbrev pub tables_check : List ℕ → List ℕ → List ℕ → List ℕ → Checked
 tables_check rd rl td tl = first (recipe_check rd rl) (listing_check td tl)
 
 -- both tables can be asked about

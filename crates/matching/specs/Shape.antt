@@ -1,8 +1,14 @@
 -- The recipe's shape in words, four for each row from row 0 on: parent, right sibling, left-most leaf, depth. Assumes nothing.
-use Rattle.std.specs.Prelude.{◌≡◌, List, ℕ, ◌+◌, ◌*◌, ◌/◌, ◌%◌, ◌^◌, ◌≤◌, length, get_or}
+use Rattle.std.specs.Prelude.{◌≡◌, List, [], ◌∷◌, ℕ, ◌+◌, ◌*◌, ◌/◌, ◌%◌, ◌^◌, ◌≤◌, length, get_or}
 use Rattle.std.specs.Int.Bits.{bit_and}
 use Rattle.rows.specs.Rows.{at, depth}
 use Rattle.matching.specs.Family.{parent, right_sibling, left_leaf}
+use Rattle.matching.specs.declared.shape.Node.{Node}
+
+-- the words of the rows, and behind them those of the kinds
+unfoldable pub words : List Node → List ℕ → List ℕ
+words [] ks = ks
+words (r ∷ rs) ks = r.parent ∷ r.right ∷ r.leaf ∷ r.depth ∷ words rs ks
 
 -- behind the words of the rows there is a bit for each of 2,048 kinds of labels, sixteen in a word: labels that leave the same
 -- remainder are of one kind
@@ -11,6 +17,14 @@ kind_word a = 1028 + a % 128
 
 abbrev pub kind_bit : ℕ → ℕ
 kind_bit a = 2 ^ (a / 128 % 16)
+
+-- among the words ks of the kinds, that of label a is not noted; those of the first i labels are
+abbrev pub Clear : List ℕ → ℕ → Type 0
+Clear ks a = bit_and (get_or ks (a % 128) 0) (kind_bit a) ≡ 0
+
+pub record Noted (rl ks : List ℕ) (i : ℕ) : Type 0 where
+  pub size : length ks ≡ 128
+  pub kinds : (v : ℕ) → 1 ≤ v → v ≤ i → Clear ks (at rl v) → ⊥
 
 -- no label of this one's kind is noted
 abbrev pub Foreign : List ℕ → ℕ → Type 0

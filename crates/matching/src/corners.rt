@@ -1,127 +1,104 @@
-// The corners of the chains asked, as the rows of a listing close and join.
+// The corners of the chains asked, as the rows of a listing close and join. Where they stand in the room is told by two plain numbers, `base` and
+// how many (`q`, `z`): each level of the listing has its own, behind those of the level above, and a bounded type for them would need an unwrap at
+// each sum. The chains and the room are lent apart, so that a contract says at once which of them stays.
 ghost use Rattle.std.specs.Prelude.{◌≡◌, true, ◌↔◌, ℕ, suc, ◌≤◌, ◌<◌, ◌+◌, length, get_or};
 ghost use Rattle.rows.specs.Rows.{depth, last_row};
 ghost use Rattle.rows.specs.Forest.{size, forest_at};
 ghost use Rattle.matching.specs.CornerRow.{OnChain};
-ghost use Rattle.matching.specs.Shape.{Shape, word};
+ghost use Rattle.matching.specs.Shape.{word};
 ghost use Rattle.matching.specs.Asked.{chain, path_chains};
-ghost use Rattle.matching.specs.Path.{log_bytes, Met, FirstPlace};
-ghost use Rattle.matching.specs.Engine.{Ready, Begins, Sought, Passed, Bare, corner_of, with_tree};
+ghost use Rattle.matching.specs.Path.{Met, FirstPlace};
+ghost use Rattle.matching.specs.Engine.{Begins, Sought, Passed, Bare, corner_of, with_tree};
 ghost use Rattle.matching.specs.Room.{room_words, recipe_of, Written, closed, joined, joined_alone, Joins};
 
-use crate::asked::{extend, path_chains};
+use crate::asked::Chains;
 use crate::joining::{close_row, join_alone, join_row};
-use crate::log::{write_log, write_none};
+use crate::log::NO_ROW;
 use crate::plain::plain_tree;
-use crate::shape::{depth_of, is_foreign, parent_of};
+use crate::question::Question;
+use crate::room::Room;
+use crate::shape::RecipeShape;
+use crate::tree::tree_end;
+use crate::work::Work;
+use std::ops::ControlFlow;
 
 // No corners yet: the q words of the room from base on become 0. It is read as the parent of row 0: a 0 that stands in the code has the
 // compiler call the C library, which for a few words takes longer than to write them.
-fn clear(shape: &[u16; 1156], room: &mut [u16; 14592], base: usize, q: usize)
-    requires { (base + q ≤ room_words) × (length room.old ≡ room_words) × (word 0 shape.now 0 ≡ 0) }
+fn clear(question: &Question, room: &mut Room, base: usize, q: usize)
+    requires { base + q ≤ room_words }
     ensures { Written room.old base q (λ i. 0) room.new }
 {
-    let none = parent_of(shape, 0);
+    let none = question.shape.parent_of(0);
     if q == 1 {
-        room[base] = none;
+        room.set(base, none);
         return;
     }
-    let mut i = 0;
-    while i < q {
-        room[base + i] = none;
-        i += 1;
+    for i in 0..q {
+        room.set(base + i, none);
     }
 }
 
-// Closes a row with the label name over the rows below it, whose corners on the z chains asked stand from base on.
+// Closes a row with the label name over the rows below it, whose corners on the z chains asked stand from base on. No twin of `join_leaf`: what
+// is done with a slot asks other facts there.
 fn close_asked(
-    shape: &[u16; 1156],
-    labels: &[u32],
+    question: &Question,
     name: u32,
-    asked: &[u16; 513],
-    room: &mut [u16; 14592],
+    asked: &Chains,
+    room: &mut Room,
     base: usize,
     z: usize,
 )
-    requires shape { Shape (recipe_of shape.now labels.now) shape.now }
-    requires z_bound { (base + z ≤ room_words) × (length room.old ≡ room_words) × (z ≤ 256) }
-    requires by_index { (i : ℕ) → i < z → (chain asked.now i ≤ length (recipe_of shape.now labels.now)) × (get_or room.old (base + i) 0 ≤ length (recipe_of shape.now labels.now)) }
-    ensures { Written room.old base z (closed shape.now labels.now name asked.now room.old base) room.new }
+    requires z_bound { (base + z ≤ room_words) × (z ≤ 256) }
+    requires by_index { (i : ℕ) → i < z → (chain asked.now i ≤ length (recipe_of question.now.shape.now question.now.labels.now)) × (get_or room.old (base + i) 0 ≤ length (recipe_of question.now.shape.now question.now.labels.now)) }
+    ensures { Written room.old base z (closed question.now.shape.now question.now.labels.now name asked.now room.old base) room.new }
 {
-    let mut i = 0;
-    while i < z {
-        room[base + i] = close_row(shape, labels, name, asked[i], room[base + i]);
-        i += 1;
+    for i in 0..z {
+        let w = close_row(question, name, asked.chain(i), room.at(base + i));
+        room.set(base + i, w);
     }
 }
 
 // Joins the tree whose corners on the chains asked stand behind the q corners from base on.
-fn join_asked(
-    shape: &[u16; 1156],
-    labels: &[u32],
-    asked: &[u16; 513],
-    room: &mut [u16; 14592],
-    base: usize,
-    q: usize,
-    z: usize,
-)
-    requires shape { Shape (recipe_of shape.now labels.now) shape.now }
-    requires q_le_z { (q ≤ z) × (base + q + z ≤ room_words) × (length room.old ≡ room_words) }
-    requires by_index { (i : ℕ) → i < q → Joins shape.now labels.now asked.now room.old base q z i }
-    ensures { Written room.old base q (joined shape.now labels.now asked.now room.old base q) room.new }
+fn join_asked(question: &Question, asked: &Chains, room: &mut Room, base: usize, q: usize, z: usize)
+    requires q_le_z { (q ≤ z) × (base + q + z ≤ room_words) }
+    requires by_index { (i : ℕ) → i < q → Joins question.now.shape.now question.now.labels.now asked.now room.old base q z i }
+    ensures { Written room.old base q (joined question.now.shape.now question.now.labels.now asked.now room.old base q) room.new }
 {
-    let mut i = 0;
-    while i < q {
-        let a = room[base + i];
-        let b = room[base + q + i];
-        room[base + i] = join_row(shape, labels, asked, room, base + q, a, b);
-        i += 1;
+    for i in 0..q {
+        let a = room.at(base + i);
+        let b = room.at(base + q + i);
+        let w = join_row(question, asked, room, base + q, a, b);
+        room.set(base + i, w);
     }
 }
 
 // Joins a row with the label name, below which nothing is found, to the q corners from base on.
-fn join_leaf(
-    shape: &[u16; 1156],
-    labels: &[u32],
-    name: u32,
-    asked: &[u16; 513],
-    room: &mut [u16; 14592],
-    base: usize,
-    q: usize,
-)
-    requires shape { Shape (recipe_of shape.now labels.now) shape.now }
-    requires q_bound { (base + q ≤ room_words) × (length room.old ≡ room_words) × (q ≤ 256) }
-    requires by_index { (i : ℕ) → i < q → OnChain (recipe_of shape.now labels.now) (chain asked.now i) (get_or room.old (base + i) 0) }
-    ensures { Written room.old base q (joined_alone shape.now labels.now name asked.now room.old base) room.new }
+fn join_leaf(question: &Question, name: u32, asked: &Chains, room: &mut Room, base: usize, q: usize)
+    requires q_bound { (base + q ≤ room_words) × (q ≤ 256) }
+    requires by_index { (i : ℕ) → i < q → OnChain (recipe_of question.now.shape.now question.now.labels.now) (chain asked.now i) (get_or room.old (base + i) 0) }
+    ensures { Written room.old base q (joined_alone question.now.shape.now question.now.labels.now name asked.now room.old base) room.new }
 {
-    let mut i = 0;
-    while i < q {
-        room[base + i] = join_alone(shape, labels, name, asked[i], room[base + i]);
-        i += 1;
+    for i in 0..q {
+        let w = join_alone(question, name, asked.chain(i), room.at(base + i));
+        room.set(base + i, w);
     }
 }
 
 // Where the row behind `first` rows is bare, that is, all rows below it have labels of kinds that the recipe has not: the last of its
-// tree. Else 0.
-fn bare_end(depths: &[u16], names: &[u32], shape: &[u16; 1156], first: usize) -> usize
-    requires { (first < length depths.now) × (length names.now ≡ length depths.now) }
-    ensures { Bare shape.now depths.now names.now first result }
+// tree.
+fn bare_end(question: &Question, first: usize) -> Option<usize>
+    requires { first < length question.now.depths.now }
+    ensures { Bare question.now.shape.now question.now.depths.now question.now.names.now first result }
 {
-    let mut end = first + 1;
-    while end < depths.len() {
-        if depths[end] <= depths[first] {
-            return end;
-        }
-        if !is_foreign(shape, names[end]) {
-            return 0;
-        }
-        end += 1;
-    }
-    end
+    tree_end(
+        question.depths,
+        first,
+        |at| question.shape.is_foreign(question.names[at]),
+    )
 }
 
 // Whether the corner w on the i-th of the path's k chains tells of it: it is a row, and stands above the next chain.
-fn is_met(shape: &[u16; 1156], asked: &[u16; 513], k: usize, i: usize, w: u16) -> bool
+fn is_met(shape: &RecipeShape, asked: &Chains, k: usize, i: usize, w: u16) -> bool
     requires { (i < k) × (k ≤ 256) × (w ≤ 256) × (suc i < k → chain asked.now (suc i) ≤ 256) }
     ensures { (result ≡ true) ↔ Met shape.now asked.now k i w }
 {
@@ -129,98 +106,70 @@ fn is_met(shape: &[u16; 1156], asked: &[u16; 513], k: usize, i: usize, w: u16) -
         return false;
     }
     if i + 1 < k {
-        return depth_of(shape, w) < depth_of(shape, asked[i + 1]);
+        return shape.depth_of(w) < shape.depth_of(asked.chain(i + 1));
     }
     true
 }
 
-// The place of the first row of the path that a tree includes, by its corners on the path's k chains, which stand from base on; 63 if there is
-// none.
-fn first_place(
-    shape: &[u16; 1156],
-    asked: &[u16; 513],
-    room: &[u16; 14592],
-    base: usize,
-    k: usize,
-) -> usize
-    requires k_bound { (k ≤ 256) × (base + k ≤ room_words) × (length room.now ≡ room_words) }
+// The place of the first row of the path that a tree includes, by its corners on the path's k chains, which stand from base on; the
+// place of no row if there is none.
+fn first_place(shape: &RecipeShape, asked: &Chains, room: &Room, base: usize, k: usize) -> usize
+    requires k_bound { (k ≤ 256) × (base + k ≤ room_words) }
     requires by_index { (i : ℕ) → i < k → (chain asked.now i ≤ 256) × (get_or room.now (base + i) 0 ≤ 256) × (1 ≤ get_or room.now (base + i) 0 → word 3 shape.now (chain asked.now 0) ≤ word 3 shape.now (get_or room.now (base + i) 0)) }
     ensures { FirstPlace shape.now asked.now room.now base k result }
 {
-    let mut i = 0;
-    while i < k {
-        let w = room[base + i];
+    for i in 0..k {
+        let w = room.at(base + i);
         if is_met(shape, asked, k, i, w) {
-            return (depth_of(shape, w) - depth_of(shape, asked[0])) as usize;
+            return (shape.depth_of(w) - shape.depth_of(asked.chain(0))) as usize;
         }
-        i += 1;
     }
-    63
+    usize::from(NO_ROW)
 }
 
 // Tree against forest: the tree whose first row stands behind `first` rows of the listing joins the q corners from base on, unless
 // one of its rows holds the first row of the path by the chains asked. The log notes for each of its rows whose label is of a kind that
 // the recipe has what its tree includes of the path.
-// Answers how many rows stand before the tree's end; or, beyond the limit of a listing, the row found.
+// Goes on with how many rows stand before the tree's end, or breaks with the row found.
 #[cycle(forest_corners_tree_corners)]
 fn tree_corners(
-    depths: &[u16],
-    names: &[u32],
-    shape: &[u16; 1156],
-    labels: &[u32],
-    asked: &mut [u16; 513],
-    room: &mut [u16; 14592],
-    log: &mut [u8; 3072],
+    question: &Question,
+    work: &mut Work,
     base: usize,
     q: usize,
     first: usize,
-) -> usize
-    requires ready { Ready shape.now labels.now depths.now names.now × (first < length depths.now) × Sought shape.now labels.now asked.old q (path_chains asked.old) }
-    requires begins { Begins shape.now labels.now asked.old room.old base q (depth depths.now (suc first)) × (length log.old ≡ log_bytes) }
-    requires by_index { (i : ℕ) → i < q → OnChain (recipe_of shape.now labels.now) (chain asked.old i) (get_or room.old (base + i) 0) }
-    ensures { Passed shape.now labels.now depths.now names.now asked.old room.old log.old base q
-        (λ i. with_tree shape.now labels.now depths.now names.now first (chain asked.old i) (get_or room.old (base + i) 0))
-        (path_chains asked.old) first (last_row depths.now (suc first)) result asked.new room.new log.new }
+) -> ControlFlow<usize, usize>
+    requires ready { (first < length question.now.depths.now) × Sought question.now.shape.now question.now.labels.now work.old.asked q (path_chains work.old.asked) }
+    requires begins { Begins question.now.shape.now question.now.labels.now work.old.asked work.old.room base q (depth question.now.depths.now (suc first)) }
+    requires by_index { (i : ℕ) → i < q → OnChain (recipe_of question.now.shape.now question.now.labels.now) (chain work.old.asked i) (get_or work.old.room (base + i) 0) }
+    ensures { Passed question.now.shape.now question.now.labels.now question.now.depths.now question.now.names.now work.old.asked work.old.room work.old.log base q
+        (λ i. with_tree question.now.shape.now question.now.labels.now question.now.depths.now question.now.names.now first (chain work.old.asked i) (get_or work.old.room (base + i) 0))
+        (path_chains work.old.asked) first (last_row question.now.depths.now (suc first)) result work.new.asked work.new.room work.new.log }
 {
-    let bare = bare_end(depths, names, shape, first);
-    if bare != 0 {
-        write_log(log, first, 63, path_chains(asked));
-        join_leaf(shape, labels, names[first], asked, room, base, q);
-        return bare;
+    let name = question.names[first];
+    if let Some(end) = bare_end(question, first) {
+        work.log.write(first, NO_ROW, work.asked.path_chains());
+        join_leaf(question, name, &work.asked, &mut work.room, base, q);
+        return ControlFlow::Continue(end);
     }
-    let z = extend(shape, asked, room, base, q);
-    let plain = plain_tree(depths, names, shape, labels, asked, z, first);
-    if plain.end != 0 {
-        write_none(log, first, plain.end, path_chains(asked));
+    let z = work.asked.extend(question.shape, &work.room, base, q);
+    let k = work.asked.path_chains();
+    if let Some(plain) = plain_tree(question, &work.asked, z, first) {
+        work.log.write_none(first, plain.end, k);
         if plain.joins {
-            join_leaf(shape, labels, names[first], asked, room, base, q);
+            join_leaf(question, name, &work.asked, &mut work.room, base, q);
         }
-        return plain.end;
+        return ControlFlow::Continue(plain.end);
     }
-    let end = forest_corners(
-        depths,
-        names,
-        shape,
-        labels,
-        asked,
-        room,
-        log,
-        base + q,
-        z,
-        first + 1,
-    );
-    if rows::LISTING_ROWS < end {
-        return end;
-    }
-    close_asked(shape, labels, names[first], asked, room, base + q, z);
-    let k = path_chains(asked);
-    let place = first_place(shape, asked, room, base + q, k);
-    write_log(log, first, place as u8, k);
+    let end = forest_corners(question, work, base + q, z, first + 1)?;
+    close_asked(question, name, &work.asked, &mut work.room, base + q, z);
+    let place = first_place(question.shape, &work.asked, &work.room, base + q, k);
+    work.log.write(first, place as u8, k);
     if place == 0 {
-        return rows::LISTING_ROWS + first + 1;
+        return ControlFlow::Break(first + 1);
     }
-    join_asked(shape, labels, asked, room, base, q, z);
-    end
+    join_asked(question, &work.asked, &mut work.room, base, q, z);
+    ControlFlow::Continue(end)
 }
 
 // Forest against forest: the corners from base on of the trees that stand side by side behind `first` rows of the listing, on
@@ -228,34 +177,29 @@ fn tree_corners(
 // passed over as if it were struck: the rows below it stand beside the others.
 #[cycle(forest_corners_tree_corners)]
 pub(crate) fn forest_corners(
-    depths: &[u16],
-    names: &[u32],
-    shape: &[u16; 1156],
-    labels: &[u32],
-    asked: &mut [u16; 513],
-    room: &mut [u16; 14592],
-    log: &mut [u8; 3072],
+    question: &Question,
+    work: &mut Work,
     base: usize,
     q: usize,
     first: usize,
-) -> usize
-    requires ready { Ready shape.now labels.now depths.now names.now × (first < length depths.now) × Sought shape.now labels.now asked.old q (path_chains asked.old) }
-    requires begins { Begins shape.now labels.now asked.old room.old base q (depth depths.now (suc first)) × (length log.old ≡ log_bytes) }
-    ensures { Passed shape.now labels.now depths.now names.now asked.old room.old log.old base q
-        (λ i. corner_of shape.now labels.now names.now (forest_at depths.now first (depth depths.now (suc first))) (chain asked.old i))
-        (path_chains asked.old) first (first + size (forest_at depths.now first (depth depths.now (suc first)))) result asked.new room.new log.new }
+) -> ControlFlow<usize, usize>
+    requires ready { (first < length question.now.depths.now) × Sought question.now.shape.now question.now.labels.now work.old.asked q (path_chains work.old.asked) }
+    requires begins { Begins question.now.shape.now question.now.labels.now work.old.asked work.old.room base q (depth question.now.depths.now (suc first)) }
+    ensures { Passed question.now.shape.now question.now.labels.now question.now.depths.now question.now.names.now work.old.asked work.old.room work.old.log base q
+        (λ i. corner_of question.now.shape.now question.now.labels.now question.now.names.now (forest_at question.now.depths.now first (depth question.now.depths.now (suc first))) (chain work.old.asked i))
+        (path_chains work.old.asked) first (first + size (forest_at question.now.depths.now first (depth question.now.depths.now (suc first)))) result work.new.asked work.new.room work.new.log }
 {
-    clear(shape, room, base, q);
+    clear(question, &mut work.room, base, q);
+    let depths = question.depths;
     let mut at = first;
-    while at < depths.len() {
-        if depths[at] < depths[first] {
-            return at;
-        }
-        if is_foreign(shape, names[at]) {
+    // A `while`: a turn passes a whole tree, so no `for` counts the rows.
+    while at < depths.len() && depths[first] <= depths[at] {
+        let struck = question.shape.is_foreign(question.names[at]);
+        if struck {
             at += 1;
         } else {
-            at = tree_corners(depths, names, shape, labels, asked, room, log, base, q, at);
+            at = tree_corners(question, work, base, q, at)?;
         }
     }
-    at
+    ControlFlow::Continue(at)
 }

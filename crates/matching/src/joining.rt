@@ -1,13 +1,16 @@
 // The corner as one row of the recipe: how it changes when a listing row closes over the rows below it, and when a tree joins.
+// It is a number, 0 for none, and no Option: the room keeps it in 16 bits, and 0 is document 01's row above all roots.
 ghost use Rattle.std.specs.Prelude.{◌≡◌, true, ◌↔◌, ◌≤◌, ◌<◌, ◌+◌, length};
 ghost use Rattle.rows.specs.Rows.{at};
 ghost use Rattle.matching.specs.CornerRow.{close_row, join_row, OnChain};
-ghost use Rattle.matching.specs.Shape.{Shape, word};
+ghost use Rattle.matching.specs.Shape.{word};
 ghost use Rattle.matching.specs.Asked.{noted};
 ghost use Rattle.matching.specs.Room.{room_words, recipe_of, following, named, alone};
 
-use crate::asked::wide;
-use crate::shape::{depth_of, leaf_of, parent_of, right_of};
+use crate::asked::Chains;
+use crate::question::Question;
+use crate::room::Room;
+use crate::shape::RecipeShape;
 
 // The label of recipe row v; that of row 0 is 0.
 pub(crate) fn label_of(labels: &[u32], v: u16) -> u32
@@ -21,91 +24,77 @@ pub(crate) fn label_of(labels: &[u32], v: u16) -> u32
 }
 
 // Close a row with the label name over the rows below it, whose corner on chain x is w: the corner on chain x then.
-pub(crate) fn close_row(shape: &[u16; 1156], labels: &[u32], name: u32, x: u16, w: u16) -> u16
-    requires shape { Shape (recipe_of shape.now labels.now) shape.now }
-    requires x_in_bounds { (x ≤ length (recipe_of shape.now labels.now)) × (w ≤ length (recipe_of shape.now labels.now)) }
-    ensures { result ≡ close_row (named labels.now) (recipe_of shape.now labels.now) x name w }
+pub(crate) fn close_row(question: &Question, name: u32, x: u16, w: u16) -> u16
+    requires { (x ≤ length (recipe_of question.now.shape.now question.now.labels.now)) × (w ≤ length (recipe_of question.now.shape.now question.now.labels.now)) }
+    ensures { result ≡ close_row (named question.now.labels.now) (recipe_of question.now.shape.now question.now.labels.now) x name w }
 {
+    let shape = question.shape;
     if w == 0 {
-        let v = leaf_of(shape, x);
-        if label_of(labels, v) == name {
+        let v = shape.leaf_of(x);
+        if label_of(question.labels, v) == name {
             return v;
         }
         return 0;
     }
-    if depth_of(shape, w) == depth_of(shape, x) {
+    if shape.depth_of(w) == shape.depth_of(x) {
         return w;
     }
-    if right_of(shape, w) != 0 {
+    if shape.right_of(w) != 0 {
         return w;
     }
-    let v = parent_of(shape, w);
-    if label_of(labels, v) == name {
+    let v = shape.parent_of(w);
+    if label_of(question.labels, v) == name {
         return v;
     }
     w
 }
 
 // Whether b is a row, and shallower than d.
-fn is_higher(shape: &[u16; 1156], b: u16, d: u16) -> bool
+fn is_higher(shape: &RecipeShape, b: u16, d: u16) -> bool
     requires { b ≤ 256 }
     ensures { (result ≡ true) ↔ ((1 ≤ b) × (word 3 shape.now b < d)) }
 {
-    if b == 0 {
-        return false;
-    }
-    depth_of(shape, b) < d
+    b != 0 && shape.depth_of(b) < d
 }
 
 // Whether w is a row of depth d.
-pub(crate) fn is_level(shape: &[u16; 1156], w: u16, d: u16) -> bool
+pub(crate) fn is_level(shape: &RecipeShape, w: u16, d: u16) -> bool
     requires { w ≤ 256 }
     ensures { (result ≡ true) ↔ ((1 ≤ w) × (word 3 shape.now w ≡ d)) }
 {
-    if w == 0 {
-        return false;
-    }
-    depth_of(shape, w) == d
+    w != 0 && shape.depth_of(w) == d
 }
 
 // The tree's corner on the chain after a, which the room keeps from base on; 0 where there is no such chain.
-fn corner_after(
-    shape: &[u16; 1156],
-    asked: &[u16; 513],
-    room: &[u16; 14592],
-    base: usize,
-    a: u16,
-) -> u16
+fn corner_after(shape: &RecipeShape, asked: &Chains, room: &Room, base: usize, a: u16) -> u16
     requires { (a ≤ 256) × (word 1 shape.now a ≤ 256) × (1 ≤ word 1 shape.now a → base + noted asked.now (word 1 shape.now a) < room_words) }
     ensures { result ≡ following shape.now asked.now room.now base a }
 {
-    let y = right_of(shape, a);
+    let y = shape.right_of(a);
     if y == 0 {
         return 0;
     }
-    let place = wide(asked[256 + (y as usize)]);
-    room[base + place]
+    room.at(base + asked.place_of(y))
 }
 
 // Join a tree, whose corners the room keeps from base on: a is the corner so far, b the tree's corner on the same chain.
 pub(crate) fn join_row(
-    shape: &[u16; 1156],
-    labels: &[u32],
-    asked: &[u16; 513],
-    room: &[u16; 14592],
+    question: &Question,
+    asked: &Chains,
+    room: &Room,
     base: usize,
     a: u16,
     b: u16,
 ) -> u16
-    requires shape { Shape (recipe_of shape.now labels.now) shape.now }
-    requires a_in_bounds { (a ≤ length (recipe_of shape.now labels.now)) × (b ≤ length (recipe_of shape.now labels.now)) × (following shape.now asked.now room.now base a ≤ length (recipe_of shape.now labels.now)) }
-    requires a_bound { (word 1 shape.now a ≤ 256) × (1 ≤ word 1 shape.now a → base + noted asked.now (word 1 shape.now a) < room_words) }
-    ensures { result ≡ join_row (recipe_of shape.now labels.now) a b (following shape.now asked.now room.now base a) }
+    requires a_in_bounds { (a ≤ length (recipe_of question.now.shape.now question.now.labels.now)) × (b ≤ length (recipe_of question.now.shape.now question.now.labels.now)) × (following question.now.shape.now asked.now room.now base a ≤ length (recipe_of question.now.shape.now question.now.labels.now)) }
+    requires a_bound { (word 1 question.now.shape.now a ≤ 256) × (1 ≤ word 1 question.now.shape.now a → base + noted asked.now (word 1 question.now.shape.now a) < room_words) }
+    ensures { result ≡ join_row (recipe_of question.now.shape.now question.now.labels.now) a b (following question.now.shape.now asked.now room.now base a) }
 {
     if a == 0 {
         return b;
     }
-    let d = depth_of(shape, a);
+    let shape = question.shape;
+    let d = shape.depth_of(a);
     if is_higher(shape, b, d) {
         return b;
     }
@@ -118,22 +107,15 @@ pub(crate) fn join_row(
 
 // How a listing row alone with the label name changes the corner a on chain x: the row's own corner, a left-most leaf, is never
 // higher than a, so where a is a row, only a leaf beside it can be gained.
-pub(crate) fn join_alone(shape: &[u16; 1156], labels: &[u32], name: u32, x: u16, a: u16) -> u16
-    requires shape { Shape (recipe_of shape.now labels.now) shape.now }
-    requires on_chain { OnChain (recipe_of shape.now labels.now) x a }
-    ensures { result ≡ join_row (recipe_of shape.now labels.now) a (alone shape.now labels.now name x) (alone shape.now labels.now name (word 1 shape.now a)) }
+pub(crate) fn join_alone(question: &Question, name: u32, x: u16, a: u16) -> u16
+    requires { OnChain (recipe_of question.now.shape.now question.now.labels.now) x a }
+    ensures { result ≡ join_row (recipe_of question.now.shape.now question.now.labels.now) a (alone question.now.shape.now question.now.labels.now name x) (alone question.now.shape.now question.now.labels.now name (word 1 question.now.shape.now a)) }
 {
     if a == 0 {
-        return close_row(shape, labels, name, x, 0);
+        return close_row(question, name, x, 0);
     }
-    let y = right_of(shape, a);
-    if leaf_of(shape, y) != y {
-        return a;
-    }
-    if y == 0 {
-        return a;
-    }
-    if label_of(labels, y) == name {
+    let y = question.shape.right_of(a);
+    if y != 0 && question.shape.leaf_of(y) == y && label_of(question.labels, y) == name {
         return y;
     }
     a

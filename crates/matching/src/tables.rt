@@ -1,66 +1,46 @@
 // The two tables of a question: whether they can be asked about, or the first refusal that holds of them.
-ghost use Rattle.std.specs.Prelude.{◌≡◌};
-ghost use Rattle.matching.specs.Refusals.{bad_row, recipe_check, listing_check, tables_check};
+ghost use Rattle.std.specs.Prelude.{◌≡◌, ℕ};
+ghost use Rattle.matching.specs.Refusals.{Gives, table_check, tables_check};
+ghost use Rattle.matching.specs.declared.Refusal.{Refusal};
 
 use crate::Refusal;
-use rows::RowCheck;
+use rows::BadRow;
 
-// Both tables are fine, or the question is refused.
+// What refuses a kind of table, in the order in which it is tried.
 #[derive(Clone, Copy)]
-pub(crate) enum Tables {
-    Fine,
-    Refused(Refusal),
+struct Rules<S, D> {
+    slices: Refusal,
+    // A recipe without rows is refused, a listing is fine.
+    empty: Result<(), Refusal>,
+    most: usize,
+    long: Refusal,
+    step: S,
+    deep: D,
 }
 
-// What the first bad row of a recipe means.
-fn recipe_row(check: RowCheck) -> Tables
-    ensures { result ≡ bad_row Refusal.RecipeStep Refusal.RecipeDeep check }
-{
-    match check {
-        RowCheck::Fine => Tables::Fine,
-        RowCheck::BadStep(v) => Tables::Refused(Refusal::RecipeStep(v)),
-        RowCheck::TooDeep(v) => Tables::Refused(Refusal::RecipeDeep(v)),
+impl<S: Fn(usize) -> Refusal, D: Fn(usize) -> Refusal> Rules<S, D> {
+    // The first refusal that holds of a table: its slices differ, it has no rows, it has too many, or its first bad row.
+    fn check(&self, depths: &[u16], labels: &[u32]) -> Result<(), Refusal>
+        requires step { S.IsAlwaysCallable self.now.step }
+        requires deep { D.IsAlwaysCallable self.now.deep }
+        ensures { (step deep : ℕ → Refusal) → Gives (S.post self.now.step) step → Gives (D.post self.now.deep) deep
+            → result ≡ table_check self.now.slices self.now.empty self.now.most self.now.long step deep depths.now labels.now }
+    {
+        if depths.len() != labels.len() {
+            return Err(self.slices);
+        }
+        if depths.is_empty() {
+            return self.empty;
+        }
+        if self.most < depths.len() {
+            return Err(self.long);
+        }
+        match rows::first_bad(depths) {
+            Ok(()) => Ok(()),
+            Err(BadRow::Step(row)) => Err((self.step)(row)),
+            Err(BadRow::TooDeep(row)) => Err((self.deep)(row)),
+        }
     }
-}
-
-// The refusals 1 to 5: the recipe's slices differ, it has no rows, it has over 256, or its first bad row.
-fn check_recipe(depths: &[u16], labels: &[u32]) -> Tables
-    ensures { result ≡ recipe_check depths.now labels.now }
-{
-    if depths.len() != labels.len() {
-        return Tables::Refused(Refusal::RecipeSlices);
-    }
-    if depths.len() == 0 {
-        return Tables::Refused(Refusal::RecipeEmpty);
-    }
-    if rows::RECIPE_ROWS < depths.len() {
-        return Tables::Refused(Refusal::RecipeLong);
-    }
-    recipe_row(rows::first_bad(depths))
-}
-
-// What the first bad row of a listing means.
-fn listing_row(check: RowCheck) -> Tables
-    ensures { result ≡ bad_row Refusal.ListingStep Refusal.ListingDeep check }
-{
-    match check {
-        RowCheck::Fine => Tables::Fine,
-        RowCheck::BadStep(v) => Tables::Refused(Refusal::ListingStep(v)),
-        RowCheck::TooDeep(v) => Tables::Refused(Refusal::ListingDeep(v)),
-    }
-}
-
-// The refusals 6 to 9: the listing's slices differ, it has over 4,096 rows, or its first bad row.
-fn check_listing(depths: &[u16], labels: &[u32]) -> Tables
-    ensures { result ≡ listing_check depths.now labels.now }
-{
-    if depths.len() != labels.len() {
-        return Tables::Refused(Refusal::ListingSlices);
-    }
-    if rows::LISTING_ROWS < depths.len() {
-        return Tables::Refused(Refusal::ListingLong);
-    }
-    listing_row(rows::first_bad(depths))
 }
 
 // The first of the refusals 1 to 9 that holds of the two tables: the recipe's before the listing's.
@@ -69,12 +49,25 @@ pub(crate) fn check_tables(
     listing_labels: &[u32],
     recipe_depths: &[u16],
     recipe_labels: &[u32],
-) -> Tables
+) -> Result<(), Refusal>
     ensures { result ≡ tables_check recipe_depths.now recipe_labels.now listing_depths.now listing_labels.now }
 {
-    let recipe = check_recipe(recipe_depths, recipe_labels);
-    match recipe {
-        Tables::Fine => check_listing(listing_depths, listing_labels),
-        Tables::Refused(refusal) => Tables::Refused(refusal),
-    }
+    let recipe = Rules {
+        slices: Refusal::RecipeSlices,
+        empty: Err(Refusal::RecipeEmpty),
+        most: rows::RECIPE_ROWS,
+        long: Refusal::RecipeLong,
+        step: Refusal::RecipeStep,
+        deep: Refusal::RecipeDeep,
+    };
+    let listing = Rules {
+        slices: Refusal::ListingSlices,
+        empty: Ok(()),
+        most: rows::LISTING_ROWS,
+        long: Refusal::ListingLong,
+        step: Refusal::ListingStep,
+        deep: Refusal::ListingDeep,
+    };
+    recipe.check(recipe_depths, recipe_labels)?;
+    listing.check(listing_depths, listing_labels)
 }

@@ -3,12 +3,14 @@ ghost use Rattle.std.specs.Prelude.{◌≡◌, suc, length};
 ghost use Rattle.rows.specs.Embedding.{SameLabel};
 ghost use Rattle.matching.specs.Placing.{HeldDeep};
 ghost use Rattle.matching.specs.Asked.{chain};
-ghost use Rattle.matching.specs.Path.{log_bytes, PathAsked};
-ghost use Rattle.matching.specs.Room.{recipe_of, room_words};
-ghost use Rattle.matching.specs.Engine.{Ready, Found};
+ghost use Rattle.matching.specs.Path.{PathAsked};
+ghost use Rattle.matching.specs.Room.{recipe_of};
+ghost use Rattle.matching.specs.Engine.{Found};
 ghost use Rattle.matching.specs.Window.{Whole};
 
+use crate::question::Question;
 use crate::seek::seek;
+use crate::work::Work;
 
 // Rows that stand together in a table: those behind `first` rows, up to row `end`.
 #[derive(Clone, Copy)]
@@ -29,62 +31,30 @@ fn behind<'a>(depths: &'a [u16], first: usize) -> Window<'a>
     }
 }
 
-// Of a window's rows, some of which hold the first row of the path asked, the first of these to close.
-fn seek_in<'a>(
-    window: Window<'a>,
-    names: &[u32],
-    shape: &[u16; 1156],
-    labels: &[u32],
-    asked: &mut [u16; 513],
-    room: &mut [u16; 14592],
-    log: &mut [u8; 3072],
-    k: usize,
-) -> usize
-    requires ready { Ready shape.now labels.now window.depths.now names.now × PathAsked (recipe_of shape.now labels.now) asked.old k }
-    requires held_deep { HeldDeep (SameLabel labels.now names.now) (recipe_of shape.now labels.now) window.depths.now (chain asked.old 0) (suc window.first) window.end × Whole window.depths.now window.first window.end }
-    requires room_len { (length room.old ≡ room_words) × (length log.old ≡ log_bytes) }
-    ensures { Found shape.now labels.now window.entry.depths.now names.now asked.old log.old k window.entry.first window.entry.end result asked.new room.new log.new }
+// Of a window's rows, some of which hold the first row of the path asked, the first of these to close. What else is asked stands in
+// the question.
+fn seek_in<'a>(window: Window<'a>, question: &Question, work: &mut Work, k: usize) -> usize
+    requires depths { window.depths.now ≡ question.now.depths.now }
+    requires path { PathAsked (recipe_of question.now.shape.now question.now.labels.now) work.old.asked k }
+    requires held_deep { HeldDeep (SameLabel question.now.labels.now question.now.names.now) (recipe_of question.now.shape.now question.now.labels.now) window.depths.now (chain work.old.asked 0) (suc window.first) window.end × Whole window.depths.now window.first window.end }
+    ensures { Found question.now.shape.now question.now.labels.now window.entry.depths.now question.now.names.now work.old.asked work.old.log k window.entry.first window.entry.end result work.new.asked work.new.room work.new.log }
 {
-    seek(
-        window.depths,
-        window.first,
-        window.end,
-        names,
-        shape,
-        labels,
-        asked,
-        room,
-        log,
-        k,
-    )
+    let within = Question {
+        depths: window.depths,
+        names: question.names,
+        recipe: question.recipe,
+        labels: question.labels,
+        shape: question.shape,
+    };
+    seek(&within, window.first, window.end, work, k)
 }
 
-// Of the rows behind `first` rows, some of which hold the first row of the path asked, the first of these to close. Callers lend a
-// slice and a number; the window is made here.
-pub(crate) fn seek_behind(
-    depths: &[u16],
-    first: usize,
-    names: &[u32],
-    shape: &[u16; 1156],
-    labels: &[u32],
-    asked: &mut [u16; 513],
-    room: &mut [u16; 14592],
-    log: &mut [u8; 3072],
-    k: usize,
-) -> usize
-    requires ready { Ready shape.now labels.now depths.now names.now × PathAsked (recipe_of shape.now labels.now) asked.old k }
-    requires held_deep { HeldDeep (SameLabel labels.now names.now) (recipe_of shape.now labels.now) depths.now (chain asked.old 0) (suc first) (length depths.now) }
-    requires room_len { (length room.old ≡ room_words) × (length log.old ≡ log_bytes) }
-    ensures { Found shape.now labels.now depths.now names.now asked.old log.old k first (length depths.now) result asked.new room.new log.new }
+// Of the rows behind `first` rows, some of which hold the first row of the path asked, the first of these to close. Callers say behind
+// how many rows; the window is made here.
+pub(crate) fn seek_behind(question: &Question, first: usize, work: &mut Work, k: usize) -> usize
+    requires path { PathAsked (recipe_of question.now.shape.now question.now.labels.now) work.old.asked k }
+    requires held_deep { HeldDeep (SameLabel question.now.labels.now question.now.names.now) (recipe_of question.now.shape.now question.now.labels.now) question.now.depths.now (chain work.old.asked 0) (suc first) (length question.now.depths.now) }
+    ensures { Found question.now.shape.now question.now.labels.now question.now.depths.now question.now.names.now work.old.asked work.old.log k first (length question.now.depths.now) result work.new.asked work.new.room work.new.log }
 {
-    seek_in(
-        behind(depths, first),
-        names,
-        shape,
-        labels,
-        asked,
-        room,
-        log,
-        k,
-    )
+    seek_in(behind(question.depths, first), question, work, k)
 }

@@ -6,12 +6,11 @@
 // After a case to read stands its input. Only the input and the slots that are asked for are lent.
 #![tactic(auto)]
 
-ghost use Rattle.std.specs.Prelude.{◌≡◌, ◌<◌, ◌≤◌, length, IfOk};
-ghost use Rattle.parcels.specs.Refusals.{number_of, place_of};
+ghost use Rattle.std.specs.Prelude.{◌<◌, ◌≤◌, length, IfOk};
 
-use parcels::{Limit, ReadAnswer, Refusal, WriteAnswer};
-use std::io;
-use std::io::{Read, Write};
+use parcels::{Limit, Refusal, Rows};
+use std::fmt::Display;
+use std::io::{self, Read, Write};
 
 const HEADER: usize = 36;
 
@@ -19,85 +18,63 @@ const MOST_BYTES: usize = 65536;
 
 const MOST_SLOTS: usize = 4100;
 
-fn wide(byte: u8) -> u32
-    ensures { result < 256 }
-{
-    byte as u32
+// What a case asks for: at most so many bytes and slots are lent.
+#[derive(Clone, Copy)]
+struct Case {
+    reads: bool,
+    start: usize,
+    limit: Limit,
+    bytes: usize,
+    depths: usize,
+    labels: usize,
+    first: u32,
+    step: u32,
 }
 
 // The header's word with a number.
-fn word(header: &[u8; 36], number: usize) -> u32
+fn word(header: &[u8; HEADER], number: usize) -> u32
     requires { number < 9 }
 {
     let at = 4 * number;
-    wide(header[at])
-        + 256 * (wide(header[at + 1]) + 256 * (wide(header[at + 2]) + 256 * wide(header[at + 3])))
+    u32::from_le_bytes([header[at], header[at + 1], header[at + 2], header[at + 3]])
 }
 
-fn least(x: usize, most: usize) -> usize
-    ensures { result ≤ most }
-{
-    if x < most { x } else { most }
-}
-
-fn byte_slots() -> [u8; 65536]
-    ensures { 65536 ≡ length result }
-{
-    [0; 65536]
-}
-
-fn depth_slots() -> [u16; 4100]
-    ensures { 4100 ≡ length result }
-{
-    [0; 4100]
-}
-
-fn label_slots() -> [u32; 4100]
-    ensures { 4100 ≡ length result }
-{
-    [0; 4100]
+impl Case {
+    fn of(header: &[u8; HEADER]) -> Case
+        ensures bytes_fit { result.bytes ≤ MOST_BYTES }
+        ensures depths_fit { result.depths ≤ MOST_SLOTS }
+        ensures labels_fit { result.labels ≤ MOST_SLOTS }
+    {
+        Case {
+            reads: word(header, 0) == 0,
+            start: word(header, 1) as usize + 4294967296 * (word(header, 2) as usize),
+            limit: if word(header, 3) == 0 {
+                Limit::Recipe
+            } else {
+                Limit::Listing
+            },
+            bytes: (word(header, 4) as usize).min(MOST_BYTES),
+            depths: (word(header, 5) as usize).min(MOST_SLOTS),
+            labels: (word(header, 6) as usize).min(MOST_SLOTS),
+            first: word(header, 7),
+            step: word(header, 8),
+        }
+    }
 }
 
 // Slots that step up from a first value.
-fn step_labels(labels: &mut [u32], first: u32, step: u32) {
+fn step_up<T: Copy, F: Fn(T) -> T>(slots: &mut [T], first: T, next: F)
+    requires { F.IsAlwaysCallable next }
+{
     let mut value = first;
-    let mut i = 0;
-    while i < labels.len() {
-        labels[i] = value;
-        value = std::num::wrapping_add_u32(value, step);
-        i += 1;
+    for slot in slots {
+        *slot = value;
+        value = next(value);
     }
-}
-
-fn step_depths(depths: &mut [u16], first: u16, step: u16) {
-    let mut value = first;
-    let mut i = 0;
-    while i < depths.len() {
-        depths[i] = value;
-        value = std::num::wrapping_add_u16(value, step);
-        i += 1;
-    }
-}
-
-fn step_bytes(bytes: &mut [u8], first: u8, step: u8) {
-    let mut value = first;
-    let mut i = 0;
-    while i < bytes.len() {
-        bytes[i] = value;
-        value = std::num::wrapping_add_u8(value, step);
-        i += 1;
-    }
-}
-
-fn low_half(word: u32) -> u16 {
-    (word % 65536) as u16
-}
-
-fn low_byte(word: u32) -> u8 {
-    (word % 256) as u8
 }
 
 // Reads until the bytes are full or the input ends, and answers how many it read.
+// A loop by hand: no call of the library does both without asking for memory. docs/DECISIONS.md says why each program has its own.
 fn read_full(input: &mut impl Read, bytes: &mut [u8]) -> io::Result<usize>
     ensures { IfOk result (λ n. n ≤ length bytes.new) }
 {
@@ -112,140 +89,75 @@ fn read_full(input: &mut impl Read, bytes: &mut [u8]) -> io::Result<usize>
     Ok(done)
 }
 
-fn show(out: &mut impl Write, number: u64) -> io::Result<()> {
-    writeln!(out, "{number}")
-}
-
-fn show_labels(out: &mut impl Write, labels: &[u32]) -> io::Result<()> {
-    let mut i = 0;
-    while i < labels.len() {
-        show(out, wide_label(labels[i]))?;
-        i += 1;
+// Each value on a line.
+fn show_all<T: Display>(out: &mut impl Write, values: &[T]) -> io::Result<()> {
+    for value in values {
+        writeln!(out, "{value}")?;
     }
     Ok(())
-}
-
-fn wide_label(label: u32) -> u64 {
-    label as u64
-}
-
-fn show_depths(out: &mut impl Write, depths: &[u16]) -> io::Result<()> {
-    let mut i = 0;
-    while i < depths.len() {
-        show(out, wide_depth(depths[i]))?;
-        i += 1;
-    }
-    Ok(())
-}
-
-fn wide_depth(depth: u16) -> u64 {
-    depth as u64
-}
-
-fn number_of(refusal: Refusal) -> u64
-    ensures { result ≡ number_of refusal }
-{
-    match refusal {
-        Refusal::SlicesDiffer => 6,
-        Refusal::OverLimit => 7,
-        Refusal::Ended(_) => 11,
-        Refusal::SecondCount(_) => 12,
-        Refusal::ThirdCount(_) => 13,
-        Refusal::SumDiffers(_) => 14,
-        Refusal::FirstCount(_) => 16,
-        Refusal::BytesTooShort => 17,
-        Refusal::RowsTooShort => 18,
-    }
-}
-
-fn place_of(refusal: Refusal) -> usize
-    ensures { result ≡ place_of refusal }
-{
-    match refusal {
-        Refusal::SlicesDiffer => 0,
-        Refusal::OverLimit => 0,
-        Refusal::Ended(place) => place,
-        Refusal::SecondCount(place) => place,
-        Refusal::ThirdCount(place) => place,
-        Refusal::SumDiffers(place) => place,
-        Refusal::FirstCount(place) => place,
-        Refusal::BytesTooShort => 0,
-        Refusal::RowsTooShort => 0,
-    }
 }
 
 // Three numbers: 0, the count of rows and the place after the parcel; or a refusal's number, its place and 0.
-fn show_read(out: &mut impl Write, answer: ReadAnswer) -> io::Result<()> {
+fn show_read(out: &mut impl Write, answer: Result<Rows, Refusal>) -> io::Result<()> {
     match answer {
-        ReadAnswer::Rows { count, next } => {
-            show(out, 0)?;
-            show(out, count as u64)?;
-            show(out, next as u64)
-        }
-        ReadAnswer::Refused(refusal) => {
-            show(out, number_of(refusal))?;
-            show(out, place_of(refusal) as u64)?;
-            show(out, 0)
-        }
+        Ok(rows) => writeln!(out, "0\n{}\n{}", rows.count, rows.next),
+        Err(refusal) => show_refusal(out, refusal),
     }
 }
 
 // Three numbers: 0, the parcel's length and 0; or a refusal's number, its place and 0.
-fn show_write(out: &mut impl Write, answer: WriteAnswer) -> io::Result<()> {
+fn show_write(out: &mut impl Write, answer: Result<usize, Refusal>) -> io::Result<()> {
     match answer {
-        WriteAnswer::Length(length) => {
-            show(out, 0)?;
-            show(out, length as u64)?;
-            show(out, 0)
-        }
-        WriteAnswer::Refused(refusal) => {
-            show(out, number_of(refusal))?;
-            show(out, place_of(refusal) as u64)?;
-            show(out, 0)
-        }
+        Ok(length) => writeln!(out, "0\n{length}\n0"),
+        Err(refusal) => show_refusal(out, refusal),
     }
 }
 
-fn limit_of(word: u32) -> Limit {
-    if word == 0 {
-        Limit::Recipe
-    } else {
-        Limit::Listing
-    }
+fn show_refusal(out: &mut impl Write, refusal: Refusal) -> io::Result<()> {
+    writeln!(out, "{}\n{}\n0", refusal.number(), refusal.place())
+}
+
+// The row slots before a case runs.
+fn step_rows(case: Case, depths: &mut [u16], labels: &mut [u32]) {
+    let step = (case.step % 65536) as u16;
+    step_up(
+        depths,
+        (case.first % 65536) as u16,
+        |depth| depth.wrapping_add(step),
+    );
+    step_up(labels, case.first, |label| label.wrapping_add(case.step));
 }
 
 fn read_case(
     input: &mut impl Read,
     out: &mut impl Write,
-    header: &[u8; 36],
+    case: Case,
     bytes: &mut [u8],
     depths: &mut [u16],
     labels: &mut [u32],
 ) -> io::Result<()> {
-    let start = word(header, 1) as usize + 4294967296 * (word(header, 2) as usize);
-    let first = word(header, 7);
-    let step = word(header, 8);
     read_full(input, bytes)?;
-    step_depths(depths, low_half(first), low_half(step));
-    step_labels(labels, first, step);
-    let answer = parcels::read(bytes, start, limit_of(word(header, 3)), depths, labels);
+    step_rows(case, depths, labels);
+    let answer = parcels::read(bytes, case.start, case.limit, depths, labels);
     show_read(out, answer)?;
-    show_depths(out, depths)?;
-    show_labels(out, labels)
+    show_all(out, depths)?;
+    show_all(out, labels)
 }
 
 fn write_case(
     out: &mut impl Write,
-    header: &[u8; 36],
+    case: Case,
     bytes: &mut [u8],
     depths: &mut [u16],
     labels: &mut [u32],
 ) -> io::Result<()> {
-    let first = word(header, 7);
-    let step = word(header, 8);
-    step_depths(depths, low_half(first), low_half(step));
-    step_labels(labels, first, step);
-    step_bytes(bytes, low_byte(first), low_byte(step));
+    step_rows(case, depths, labels);
+    let step = (case.step % 256) as u8;
+    step_up(
+        bytes,
+        (case.first % 256) as u8,
+        |byte| byte.wrapping_add(step),
+    );
     show_write(out, parcels::write(depths, labels, bytes))?;
     out.write_all(bytes)
 }
@@ -253,32 +165,21 @@ fn write_case(
 // Runs one case, and answers whether there was one.
 fn one_case(input: &mut impl Read, out: &mut impl Write) -> io::Result<bool> {
     let mut header = [0u8; HEADER];
-    let mut bytes = byte_slots();
-    let mut depths = depth_slots();
-    let mut labels = label_slots();
+    let mut bytes = [0u8; MOST_BYTES];
+    let mut depths = [0u16; MOST_SLOTS];
+    let mut labels = [0u32; MOST_SLOTS];
     if read_full(input, &mut header)? < HEADER {
         return Ok(false);
     }
-    let b = least(word(&header, 4) as usize, MOST_BYTES);
-    let d = least(word(&header, 5) as usize, MOST_SLOTS);
-    let l = least(word(&header, 6) as usize, MOST_SLOTS);
-    if word(&header, 0) == 0 {
-        read_case(
-            input,
-            out,
-            &header,
-            &mut bytes[..b],
-            &mut depths[..d],
-            &mut labels[..l],
-        )?;
+    let case = Case::of(&header);
+    let bytes = &mut bytes[..case.bytes];
+    let depths = &mut depths[..case.depths];
+    let labels = &mut labels[..case.labels];
+    // The input says which call it is: there is nobody to hand over a closure.
+    if case.reads {
+        read_case(input, out, case, bytes, depths, labels)?;
     } else {
-        write_case(
-            out,
-            &header,
-            &mut bytes[..b],
-            &mut depths[..d],
-            &mut labels[..l],
-        )?;
+        write_case(out, case, bytes, depths, labels)?;
     }
     Ok(true)
 }

@@ -1,7 +1,9 @@
--- Numbers in bytes: what two bytes make, and four of them from two and two, read and written. Assumes nothing.
-use Rattle.std.proofs.Common.{◌≡◌, ℕ, zero, suc, ◌+◌, ◌*◌, ◌/◌, ◌%◌, ◌<◌, ◌≤◌, List, [], ◌∷◌, ◌++◌, length, get_or, drop, set, sym, refl, ap, ◌∙◌, mul-zero, mul-suc, add-one, arith, drop-cons, drop-drop}
-use native.Mathlib.Nat.{add-mul-mod_self_left, div-div-eq-div-mul}
-use lib.Seq.{sets}
+-- Numbers in bytes: what two bytes make, and four, read and written. Assumes nothing.
+use Rattle.std.proofs.Common.{◌≡◌, ℕ, zero, suc, ◌+◌, ◌-◌, ◌*◌, ◌<◌, ◌≤◌, List, [], ◌∷◌, ◌++◌, length, get_or, take, drop, set, sym, refl, ap, ◌∙◌, append_assoc, mul-zero, mul-suc, add-one, arith, drop-cons, drop-drop}
+use native.Mathlib.Nat.{div-div-eq-div-mul}
+use borrow.Rule.Slice.PartMut.{put_mid}
+use lib.Seq.{sets, sets-eq}
+use Rattle.std.specs.Int.{w16, w32, to_le_bytes}
 use Rattle.parcels.specs.Numbers.{le, number, numbers}
 
 -- two bytes
@@ -11,36 +13,48 @@ number_two bytes at h =
     let h' : suc at < length bytes = omega arith in
     rw (drop-cons bytes at 0 (omega arith), drop-cons bytes (suc at) 0 h', add-one at) (omega arith)
 
-halves : (bytes : List ℕ) → number 4 bytes ≡ number 2 bytes + 65536 * number 2 (drop 2 bytes)
+-- four bytes
+pub number_four : (bytes : List ℕ) (at : ℕ) → at + 4 ≤ length bytes → number 4 (drop at bytes)
+    ≡ get_or bytes at 0 + get_or bytes (at + 1) 0 * 256 + get_or bytes (at + 2) 0 * 65536 + get_or bytes (at + 3) 0 * 16777216
 unfolding number
-halves [] = refl
-halves (b ∷ []) = omega arith
-halves (b ∷ c ∷ bytes) = omega arith
-
--- four bytes are two and two
-pub number_halves : (bytes : List ℕ) (at : ℕ) → number 4 (drop at bytes) ≡ number 2 (drop at bytes) + 65536 * number 2 (drop (at + 2) bytes)
-number_halves bytes at = halves (drop at bytes) ∙ ap (λ (r : List ℕ). number 2 (drop at bytes) + 65536 * number 2 r) (drop-drop 2 at bytes)
+number_four bytes at h =
+    let one : suc at < length bytes = omega arith in
+    let two : suc (suc at) < length bytes = omega arith in
+    let three : suc (suc (suc at)) < length bytes = omega arith in
+    let e : at + 2 ≡ suc (suc at) = omega arith in
+    let f : at + 3 ≡ suc (suc (suc at)) = omega arith in
+    rw (
+      drop-cons bytes at 0 (omega arith),
+      drop-cons bytes (suc at) 0 one,
+      drop-cons bytes (suc (suc at)) 0 two,
+      drop-cons bytes (suc (suc (suc at))) 0 three,
+      add-one at,
+      e,
+      f,
+    )
+    (omega arith)
 
 -- a run of stores in two parts
 pub sets_append : (xs ys l : List ℕ) (i : ℕ) → sets l i (xs ++ ys) ≡ sets (sets l i xs) (i + length xs) ys
 sets_append [] ys l i = let e : i + 0 ≡ i = omega arith in rw e
 sets_append (x ∷ xs) ys l i = let e : i + suc (length xs) ≡ suc i + length xs = omega arith in rw e (sets_append xs ys (set l i x) (suc i))
 
--- a number of two bytes, stored byte by byte
-pub store_two : (bytes : List ℕ) (at x : ℕ) → x < 65536 → set (set bytes at (x % 256)) (at + 1) (x / 256) ≡ sets bytes at (le 2 x)
+-- the library's bytes of a number are these
+pub le_two : (x : ℕ) → to_le_bytes w16 x ≡ le 2 x
 unfolding le
-store_two bytes at x h = let e : x / 256 % 256 ≡ x / 256 = omega arith in rw (add-one, e)
+le_two x = refl
 
--- a number of four bytes, stored by halves
-pub store_halves : (bytes : List ℕ) (at x : ℕ) → sets (sets bytes at (le 2 (x % 65536))) (at + 2) (le 2 (x / 65536)) ≡ sets bytes at (le 4 x)
+pub le_four : (x : ℕ) → to_le_bytes w32 x ≡ le 4 x
 unfolding le
-store_halves bytes at x =
-    let a : x % 65536 % 256 ≡ x % 256 = omega arith in
-    let h : x / 256 ≡ x % 65536 / 256 + 256 * (x / 65536) = omega arith in
-    let b : x % 65536 / 256 % 256 ≡ x / 256 % 256 = sym (add-mul-mod_self_left (x % 65536 / 256) 256 (x / 65536)) ∙ rw h in
-    let q : x / 256 / 256 ≡ x / 65536 = div-div-eq-div-mul x 256 256 in
-    let e : at + 2 ≡ suc (suc at) = omega arith in
-    rw (a, b, q, e)
+le_four x = rw (div-div-eq-div-mul x 256 256, div-div-eq-div-mul x 65536 256)
+
+-- a run of bytes copied over a part of as many
+pub copied : (bytes : List ℕ) (at w : ℕ) (part xs : List ℕ) → at + w ≤ length bytes → part ≡ xs → length xs ≡ w
+    → put_mid at (at + w - at) bytes part ≡ sets bytes at xs
+copied bytes at w part xs h e l =
+    let k : at + w - at ≡ w = omega arith in
+    let d : drop w (drop at bytes) ≡ drop (at + length xs) bytes = drop-drop w at bytes ∙ ap (λ (n : ℕ). drop n bytes) (omega arith) in
+    rw (e, k, d) (sym (append_assoc (take at bytes) xs (drop (at + length xs) bytes)) ∙ sym (sets-eq xs bytes at (omega arith)))
 
 -- how many numbers there are
 pub numbers_length : (w n : ℕ) (bytes : List ℕ) → length (numbers w n bytes) ≡ n

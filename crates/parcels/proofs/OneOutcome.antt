@@ -1,9 +1,10 @@
 -- Two outcomes that meet a public function's contract are equal: the contracts say all that is seen of a call. Assumes nothing.
-use Rattle.std.proofs.Common.{◌≡◌, sym, ap, ◌∙◌}
+use Rattle.std.proofs.Common.{◌≡◌, Result, sym, ap, ◌∙◌}
 use contract.Lifetimes.{Lfts}
 use denote.Triple.Clauses.{AtExit}
 use borrow.Fn.Kinds.{Dens, res_t, ended_of}
-use Rattle.parcels.specs.declared.ReadAnswer.{ReadAnswer}
+use Rattle.parcels.specs.declared.Refusal.{Refusal}
+use Rattle.parcels.specs.declared.Rows.{Rows}
 use Rattle.parcels.specs.Read.{filled, depths_in, labels_in}
 use Rattle.parcels.proofs.write.Kinds as write
 use Rattle.parcels.proofs.write.Reads as write-contract
@@ -24,6 +25,6 @@ one_read κs args r s x y p q =
     let bytes = args.0.now in
     let start = args.1.0 in (
       same,
-      p.1.0 ∙ ap (λ (a : ReadAnswer). filled a (depths_in bytes start) args.1.1.1.0.now) same ∙ sym q.1.0,
-      p.1.1 ∙ ap (λ (a : ReadAnswer). filled a (labels_in bytes start) args.1.1.1.1.0.now) same ∙ sym q.1.1,
+      p.1.0 ∙ ap (λ (a : Result Rows Refusal). filled a (depths_in bytes start) args.1.1.1.0.now) same ∙ sym q.1.0,
+      p.1.1 ∙ ap (λ (a : Result Rows Refusal). filled a (labels_in bytes start) args.1.1.1.1.0.now) same ∙ sym q.1.1,
     )

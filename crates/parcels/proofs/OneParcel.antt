@@ -5,9 +5,8 @@ use Rattle.parcels.specs.Numbers.{le, number, fields, numbers}
 use Rattle.parcels.specs.Sums.{none, added_all}
 use Rattle.parcels.specs.Table.{Below, Bytes}
 use Rattle.parcels.specs.Parcel.{words, section, both, parcel_of}
-use Rattle.parcels.specs.Read.{after, sums_at, labels_in, depths_in, sums_agree, read_of}
+use Rattle.parcels.specs.Read.{given, after, sums_at, labels_in, depths_in, sums_agree, read_of}
 use Rattle.parcels.specs.declared.Limit.{Limit}
-use Rattle.parcels.specs.declared.ReadAnswer.TheVariants.{Rows}
 use Rattle.parcels.proofs.LittleEndian.{numbers_length}
 use Rattle.parcels.proofs.Accepting.{Accepted, accepted}
 
@@ -73,7 +72,7 @@ pub record Reading : Type 0 where
   pub count : ℕ
   pub next : ℕ
   pub input : Bytes bytes
-  pub answer : read_of bytes start limit depth_slots label_slots ≡ Rows count next
+  pub answer : read_of bytes start limit depth_slots label_slots ≡ given count next
 
 module _ (r : Reading) where
   -- the rows that it gives

@@ -8,9 +8,8 @@ use Rattle.parcels.specs.declared.sums.Sums.{Sums}
 use Rattle.parcels.specs.Sums.{none, added, added_all}
 use Rattle.parcels.specs.Table.{Below, Table}
 use Rattle.parcels.specs.Parcel.{words, sums_of, section, both, parcel_of}
-use Rattle.parcels.specs.Read.{most_rows, after, sums_at, labels_in, depths_in, sums_agree, read_of}
+use Rattle.parcels.specs.Read.{most_rows, given, after, sums_at, labels_in, depths_in, sums_agree, read_of}
 use Rattle.parcels.specs.declared.Limit.{Limit}
-use Rattle.parcels.specs.declared.ReadAnswer.TheVariants.{Rows}
 use Rattle.parcels.proofs.Runs.{le_length}
 use Rattle.parcels.proofs.Sections.{section_length}
 use Rattle.parcels.proofs.Judging.{both_agree}
@@ -105,7 +104,7 @@ module _ (bytes : List ℕ) (start : ℕ) (depths labels rest : List ℕ) (table
 
   -- and it is accepted, where the limit and the lent row slices allow
   pub accepted_back : (limit : Limit) (depth_slots label_slots : List ℕ) → n ≤ most_rows limit → n ≤ length depth_slots → n ≤ length label_slots
-      → read_of bytes start limit depth_slots label_slots ≡ Rows n (start + (20 + 6 * n))
+      → read_of bytes start limit depth_slots label_slots ≡ given n (start + (20 + 6 * n))
   accepted_back limit depth_slots label_slots h d l =
       accepts bytes start limit depth_slots label_slots n (start + (20 + 6 * n)) (record {
         claimed = record {

@@ -1,7 +1,6 @@
 -- Sections and parcels put into bytes one part after another, and their lengths. Assumes nothing.
 use Rattle.std.proofs.Common.{◌≡◌, ℕ, ◌+◌, ◌*◌, List, ◌++◌, length, sym, ◌∙◌, append_assoc, append-nil, arith, length-append}
 use lib.Seq.{sets}
-use Rattle.parcels.specs.declared.sums.Sums.{Sums}
 use Rattle.parcels.specs.Numbers.{le, fields}
 use Rattle.parcels.specs.Parcel.{section, both, sums_of, parcel_of}
 use Rattle.parcels.proofs.LittleEndian.{sets_append}
@@ -22,17 +21,6 @@ pub put_section : (bytes : List ℕ) {first second : List ℕ} (w at : ℕ) (xs 
     → second ≡ sets first (at + 4) (fields w xs) → second ≡ sets bytes at (section w xs)
 unfolding section
 put_section bytes w at xs e f = put_then bytes at (at + 4) (le 4 (length xs)) (fields w xs) e f (omega (arith, le_length 4 (length xs)))
-
--- the section of the sums is put as three numbers
-pub put_both : (bytes : List ℕ) {first second third : List ℕ} (at : ℕ) (sums : Sums) → first ≡ sets bytes at (le 4 2)
-    → second ≡ sets first (at + 4) (le 4 sums.first) → third ≡ sets second (at + 8) (le 4 sums.second) → third ≡ sets bytes at (section 4 (both sums))
-unfolding section fields
-put_both bytes at sums e f g =
-    let x = sums.first in
-    let y = sums.second in
-    let h = put_then bytes at (at + 4) (le 4 2) (le 4 x) e f (omega (arith, le_length 4 2)) in
-    let l : at + 8 ≡ at + length (le 4 2 ++ le 4 x) = omega (arith, length-append (le 4 2) (le 4 x), le_length 4 2, le_length 4 x) in
-    put_then bytes at (at + 8) (le 4 2 ++ le 4 x) (le 4 y) h g l ∙ rw (append-nil (le 4 y), append_assoc (le 4 2) (le 4 x) (le 4 y))
 
 -- a parcel has this many bytes
 pub parcel_length : (ds ls : List ℕ) → length ds ≡ length ls → length (parcel_of ds ls) ≡ 20 + 6 * length ls

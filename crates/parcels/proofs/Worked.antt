@@ -3,9 +3,8 @@ use Rattle.std.proofs.Common.{◌≡◌, ℕ, List, [], ◌∷◌, ◌++◌, ref
 use Rattle.parcels.specs.Numbers.{le, number, fields, numbers}
 use Rattle.parcels.specs.Sums.{none, added, added_all}
 use Rattle.parcels.specs.Parcel.{section, parcel_of}
-use Rattle.parcels.specs.Read.{section_of, claim_of, sums_agree, read_of}
+use Rattle.parcels.specs.Read.{section_of, given, claim_of, sums_agree, read_of}
 use Rattle.parcels.specs.declared.Limit.TheVariants.{Recipe, Listing}
-use Rattle.parcels.specs.declared.ReadAnswer.TheVariants.{Rows}
 
 -- labels 10 20, depths 0 1, sums 33 and 111
 abbrev recipe : List ℕ
@@ -24,6 +23,6 @@ pub parcels_written : (parcel_of (0 ∷ 1 ∷ []) (10 ∷ 20 ∷ []) ≡ recipe)
 unfolding le fields none added added_all section parcel_of
 parcels_written = (refl, refl)
 
-pub parcels_read : (read_of (recipe ++ listing) 0 Recipe slots slots ≡ Rows 2 32) × (read_of (recipe ++ listing) 32 Listing slots slots ≡ Rows 3 70)
+pub parcels_read : (read_of (recipe ++ listing) 0 Recipe slots slots ≡ given 2 32) × (read_of (recipe ++ listing) 32 Listing slots slots ≡ given 3 70)
 unfolding number numbers none added added_all section_of claim_of sums_agree
 parcels_read = (refl, refl)

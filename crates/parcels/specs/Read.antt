@@ -1,6 +1,6 @@
 -- The reader: its answer and the lent row slices afterwards. Document 01's order: "fields in reading order, each first for being
 -- whole, then for its value; both sums are read before 14; then 18". Places count from the start of the input. Assumes nothing.
-use Rattle.std.specs.Prelude.{ℕ, ◌+◌, ◌*◌, ◌≤◌, Bool, ◌&&◌, List, ◌++◌, length, drop, ◌==◌, nat_le}
+use Rattle.std.specs.Prelude.{ℕ, ◌+◌, ◌*◌, ◌≤◌, Bool, ◌&&◌, List, ◌++◌, length, drop, ◌==◌, nat_le, Result, Ok, Err}
 use Rattle.rows.specs.Limits.{recipe_rows, listing_rows}
 use Rattle.parcels.specs.Asked.{asked}
 use Rattle.parcels.specs.Numbers.{number, numbers}
@@ -10,10 +10,8 @@ use Rattle.parcels.specs.declared.Limit.{Limit}
 use Rattle.parcels.specs.declared.Limit.TheVariants.{Recipe, Listing}
 use Rattle.parcels.specs.declared.Refusal.{Refusal}
 use Rattle.parcels.specs.declared.Refusal.TheVariants.{Ended, SecondCount, ThirdCount, SumDiffers, FirstCount, RowsTooShort}
-use Rattle.parcels.specs.declared.ReadAnswer.{ReadAnswer}
-use Rattle.parcels.specs.declared.ReadAnswer.TheVariants.{Rows, Refused}
-use Rattle.parcels.specs.declared.judge.Look.{Look}
-use Rattle.parcels.specs.declared.judge.Look.TheVariants.{Whole, Cut, Miscounted}
+use Rattle.parcels.specs.declared.Rows.{Rows}
+use Rattle.parcels.specs.declared.judge.Whole.{Whole}
 
 -- the limit that the reader is told
 abbrev pub most_rows : Limit → ℕ
@@ -25,27 +23,30 @@ abbrev pub after : ℕ → ℕ → ℕ → ℕ
 after at w n = at + 4 + w * n
 
 -- one section: its count, first for being whole, then for its value; then its fields for being whole
-unfoldable pub section_of : List ℕ → ℕ → ℕ → ℕ → ℕ → Look
-section_of bytes at least most width =
+unfoldable pub section_of : List ℕ → ℕ → ℕ → ℕ → ℕ → Refusal → Result Whole Refusal
+section_of bytes at least most width miscounted =
     let count = number 4 (drop at bytes) in
-    asked (nat_le (at + 4) (length bytes)) Cut
-    (asked (nat_le least count) Miscounted
-    (asked (nat_le count most) Miscounted
-    (asked (nat_le (after at width count) (length bytes)) Cut
-    (Whole count (after at width count)))))
+    asked (nat_le (at + 4) (length bytes)) (Err (Ended (length bytes)))
+    (asked (nat_le least count) (Err miscounted)
+    (asked (nat_le count most) (Err miscounted)
+    (asked (nat_le (after at width count) (length bytes)) (Err (Ended (length bytes)))
+    (Ok (record { count = count; next = after at width count })))))
 
 -- what a section leads to: a refusal, or what comes after it
-abbrev pub followed : Look → Refusal → Refusal → (ℕ → ℕ → ReadAnswer) → ReadAnswer
-followed Cut ended miscounted next = Refused ended
-followed Miscounted ended miscounted next = Refused miscounted
-followed (Whole count place) ended miscounted next = next count place
+abbrev pub followed : Result Whole Refusal → (ℕ → ℕ → Result Rows Refusal) → Result Rows Refusal
+followed (Err r) next = Err r
+followed (Ok whole) next = next whole.count whole.next
+
+-- so many rows, and the place after their parcel
+abbrev pub given : ℕ → ℕ → Result Rows Refusal
+given n next = Ok (record { count = n; next = next })
 
 -- the three sections in their order: at most so many labels, as many depths, two sums
-unfoldable pub claim_of : List ℕ → ℕ → ℕ → ReadAnswer
+unfoldable pub claim_of : List ℕ → ℕ → ℕ → Result Rows Refusal
 claim_of bytes start most =
-    followed (section_of bytes start 0 most 4) (Ended (length bytes)) (FirstCount start) (λ n second.
-    followed (section_of bytes second n n 2) (Ended (length bytes)) (SecondCount second) (λ _ third.
-    followed (section_of bytes third 2 2 4) (Ended (length bytes)) (ThirdCount third) (λ _ next. Rows n next)))
+    followed (section_of bytes start 0 most 4 (FirstCount start)) (λ n second.
+    followed (section_of bytes second n n 2 (SecondCount second)) (λ _ third.
+    followed (section_of bytes third 2 2 4 (ThirdCount third)) (λ _ next. given n next)))
 
 -- where the labels, the depths and the sums of a parcel stand
 abbrev pub labels_at : ℕ → ℕ
@@ -71,30 +72,26 @@ sums_agree bytes start n =
     (number 4 (drop (sums_at start n) bytes) == sums.first) && number 4 (drop (sums_at start n + 4) bytes) == sums.second
 
 -- what is claimed, if both sums agree
-abbrev pub agreed_of : List ℕ → ℕ → ReadAnswer → ReadAnswer
-agreed_of bytes start (Refused r) = Refused r
-agreed_of bytes start (Rows n next) = asked (sums_agree bytes start n) (Refused (SumDiffers (sums_at start n))) (Rows n next)
+abbrev pub agreed_of : List ℕ → ℕ → Result Rows Refusal → Result Rows Refusal
+agreed_of bytes start (Err r) = Err r
+agreed_of bytes start (Ok rows) = asked (sums_agree bytes start rows.count) (Err (SumDiffers (sums_at start rows.count))) (Ok rows)
 
 -- what was agreed, if both lent row slices have n slots
-abbrev pub room_of : ReadAnswer → ℕ → ℕ → ReadAnswer
-room_of (Refused r) depths labels = Refused r
-room_of (Rows n next) depths labels = asked (nat_le n depths) (Refused RowsTooShort) (asked (nat_le n labels) (Refused RowsTooShort) (Rows n next))
+abbrev pub room_of : Result Rows Refusal → ℕ → ℕ → Result Rows Refusal
+room_of (Err r) depths labels = Err r
+room_of (Ok rows) depths labels =
+    asked (nat_le rows.count depths) (Err RowsTooShort) (asked (nat_le rows.count labels) (Err RowsTooShort) (Ok rows))
 
 -- the answer, from the input, the place to start, the limit and the lent row slices
-abbrev pub read_of : List ℕ → ℕ → Limit → List ℕ → List ℕ → ReadAnswer
+abbrev pub read_of : List ℕ → ℕ → Limit → List ℕ → List ℕ → Result Rows Refusal
 read_of bytes start limit depths labels = room_of (agreed_of bytes start (claim_of bytes start (most_rows limit))) (length depths) (length labels)
 
 -- a lent row slice after an answer: its first n slots the rows, later slots as they were; after a refusal all as they were
-abbrev pub filled : ReadAnswer → (ℕ → List ℕ) → List ℕ → List ℕ
-filled (Refused r) rows slots = slots
-filled (Rows n next) rows slots = rows n ++ drop n slots
+abbrev pub filled : Result Rows Refusal → (ℕ → List ℕ) → List ℕ → List ℕ
+filled (Err r) rows slots = slots
+filled (Ok found) rows slots = rows found.count ++ drop found.count slots
 
 -- a claim of rows lies within the limit and the input
-abbrev pub Claim : List ℕ → ℕ → ReadAnswer → Type 0
-Claim bytes start (Refused r) = Unit
-Claim bytes start (Rows n next) = (n ≤ listing_rows) × (start + (20 + 6 * n) ≤ length bytes)
-
--- the rows of an answer lie within the input, and both lent row slices have a slot for each
-abbrev pub Fillable : List ℕ → ℕ → ReadAnswer → List ℕ → List ℕ → Type 0
-Fillable bytes start (Refused r) depths labels = Unit
-Fillable bytes start (Rows n next) depths labels = (start + (20 + 6 * n) ≤ length bytes) × (n ≤ length depths) × (n ≤ length labels)
+abbrev pub Claim : List ℕ → ℕ → Result Rows Refusal → Type 0
+Claim bytes start (Err r) = Unit
+Claim bytes start (Ok rows) = (rows.count ≤ listing_rows) × (start + (20 + 6 * rows.count) ≤ length bytes)

@@ -1,5 +1,6 @@
 -- Document 01, "Numbers of refusal": the number and the place of each refusal of a parcel. Assumes nothing.
-use Rattle.std.specs.Prelude.{ℕ}
+use Rattle.std.specs.Prelude.{ℕ, List, ◌∷◌, ◌++◌}
+use Rattle.std.specs.Fmt.{decimal}
 use Rattle.parcels.specs.declared.Refusal.{Refusal}
 use Rattle.parcels.specs.declared.Refusal.TheVariants.{SlicesDiffer, OverLimit, Ended, SecondCount, ThirdCount}
 use Rattle.parcels.specs.declared.Refusal.TheVariants.{SumDiffers, FirstCount, BytesTooShort, RowsTooShort}
@@ -25,3 +26,7 @@ place_of (SumDiffers place) = place
 place_of (FirstCount place) = place
 place_of BytesTooShort = 0
 place_of RowsTooShort = 0
+
+-- as it is printed: the number, a space (32) and the place
+abbrev pub number_and_place : Refusal → List ℕ
+number_and_place refusal = decimal (number_of refusal) ++ (32 ∷ decimal (place_of refusal))

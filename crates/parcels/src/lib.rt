@@ -4,24 +4,30 @@
 mod fields;
 mod judge;
 mod numbers;
+mod parcel;
 mod sums;
 
-ghost use Rattle.std.specs.Prelude.{◌≡◌, ◌+◌, ◌*◌, ◌≤◌, length};
+ghost use Rattle.std.specs.Prelude.{◌≡◌, ◌+◌, ◌*◌, ◌≤◌, length, Some};
 ghost use Rattle.std.proofs.lemmas.List.Edits.{sets};
 ghost use Rattle.rows.specs.Limits.{listing_rows};
 ghost use Rattle.parcels.specs.Parcel.{parcel_of};
 ghost use Rattle.parcels.specs.Write.{write_of, written};
-ghost use Rattle.parcels.specs.Read.{read_of, filled, labels_in, depths_in, Fillable};
+ghost use Rattle.parcels.specs.Read.{read_of, filled, labels_in, depths_in};
+ghost use Rattle.parcels.specs.Refusals.{number_of, place_of, number_and_place};
+
+use crate::parcel::Parcel;
+use crate::sums::Sums;
+use std::fmt;
 
 // Whose row limit holds.
-#[derive(Clone, Copy)]
+#[derive(Clone, Copy, Debug, PartialEq, Eq)]
 pub enum Limit {
     Recipe,
     Listing,
 }
 
 // Why a parcel is not read or not written, with its place in the input where that is not 0. specs/Refusals.antt has the numbers.
-#[derive(Clone, Copy)]
+#[derive(Clone, Copy, Debug, PartialEq, Eq)]
 pub enum Refusal {
     // The row slices to write differ in length.
     SlicesDiffer,
@@ -43,18 +49,56 @@ pub enum Refusal {
     RowsTooShort,
 }
 
-// What reading gives: the count of rows and the place after the parcel, or the refusal.
-#[derive(Clone, Copy)]
-pub enum ReadAnswer {
-    Rows { count: usize, next: usize },
-    Refused(Refusal),
+impl Refusal {
+    // Its number of refusal.
+    pub fn number(self) -> u32
+        ensures { result ≡ number_of self }
+    {
+        match self {
+            Refusal::SlicesDiffer => 6,
+            Refusal::OverLimit => 7,
+            Refusal::Ended(_) => 11,
+            Refusal::SecondCount(_) => 12,
+            Refusal::ThirdCount(_) => 13,
+            Refusal::SumDiffers(_) => 14,
+            Refusal::FirstCount(_) => 16,
+            Refusal::BytesTooShort => 17,
+            Refusal::RowsTooShort => 18,
+        }
+    }
+
+    // Its place in the input, or 0.
+    pub fn place(self) -> usize
+        ensures { result ≡ place_of self }
+    {
+        match self {
+            Refusal::Ended(place)
+            | Refusal::SecondCount(place)
+            | Refusal::ThirdCount(place)
+            | Refusal::SumDiffers(place)
+            | Refusal::FirstCount(place) => place,
+            Refusal::SlicesDiffer
+            | Refusal::OverLimit
+            | Refusal::BytesTooShort
+            | Refusal::RowsTooShort => 0,
+        }
+    }
 }
 
-// What writing gives: the parcel's length, or the refusal.
-#[derive(Clone, Copy)]
-pub enum WriteAnswer {
-    Length(usize),
-    Refused(Refusal),
+// The number and the place, with a space between.
+impl fmt::Display for Refusal {
+    ghost output = { λ refusal. Some (number_and_place refusal) };
+
+    fn fmt<W: fmt::Write>(&self, f: &mut fmt::Formatter<W>) -> fmt::Result {
+        write!(f, "{} {}", self.number(), self.place())
+    }
+}
+
+// The rows that were read: how many, and the place after their parcel.
+#[derive(Clone, Copy, Debug, PartialEq, Eq)]
+pub struct Rows {
+    pub count: usize,
+    pub next: usize,
 }
 
 // Puts the parcel of a table at the front of bytes that have room for it. Later bytes stay.
@@ -64,60 +108,56 @@ fn put_parcel(depths: &[u16], labels: &[u32], bytes: &mut [u8])
     ensures { bytes.new ≡ sets bytes.old 0 (parcel_of depths.now labels.now) }
 {
     let n = labels.len();
-    let whole = sums::of_table(labels, depths);
-    fields::put_labels(bytes, 0, labels);
-    fields::put_depths(bytes, 4 + 4 * n, depths);
-    fields::put_sums(bytes, 8 + 6 * n, whole);
+    let whole = Sums::of_table(labels, depths);
+    fields::put(bytes, 0, labels);
+    fields::put(bytes, 4 + 4 * n, depths);
+    fields::put(bytes, 8 + 6 * n, &[whole.first, whole.second]);
 }
 
 // Writes a table, of any depths, as a parcel at the front of the lent bytes. Bytes after the parcel stay, and a refusal changes none.
-pub fn write(depths: &[u16], labels: &[u32], bytes: &mut [u8]) -> WriteAnswer
+#[tactic(auto, unfolding(crate::specs::Write::write_of))]
+pub fn write(depths: &[u16], labels: &[u32], bytes: &mut [u8]) -> Result<usize, Refusal>
     ensures answer { result ≡ write_of depths.now labels.now bytes.old }
     ensures bytes_after { bytes.new ≡ written depths.now labels.now bytes.old }
 {
     let n = labels.len();
     if depths.len() != n {
-        return WriteAnswer::Refused(Refusal::SlicesDiffer);
+        return Err(Refusal::SlicesDiffer);
     }
     if rows::LISTING_ROWS < n {
-        return WriteAnswer::Refused(Refusal::OverLimit);
+        return Err(Refusal::OverLimit);
     }
     let size = 20 + 6 * n;
     if bytes.len() < size {
-        return WriteAnswer::Refused(Refusal::BytesTooShort);
+        return Err(Refusal::BytesTooShort);
     }
     put_parcel(depths, labels, bytes);
-    WriteAnswer::Length(size)
-}
-
-// Fills the first slots of the lent row slices with the rows of an answer. Later slots stay, and a refusal fills none.
-fn fill(bytes: &[u8], start: usize, answer: ReadAnswer, depths: &mut [u16], labels: &mut [u32])
-    requires { Fillable bytes.now start answer depths.old labels.old }
-    ensures depths_after { depths.new ≡ filled answer (depths_in bytes.now start) depths.old }
-    ensures labels_after { labels.new ≡ filled answer (labels_in bytes.now start) labels.old }
-{
-    if let ReadAnswer::Rows { count, next: _ } = answer {
-        fields::fill_labels(bytes, start + 4, count, labels);
-        fields::fill_depths(bytes, judge::depths_at(start, count), count, depths);
-    }
+    Ok(size)
 }
 
 // Reads the parcel that starts at a place of the input into the lent row slices. It fills the first slots of each, one a row;
 // later slots stay, and a refusal changes none: all is judged before a slot is filled.
+#[tactic(auto, using(crate::proofs::Accepting::fillable))]
 pub fn read(
     bytes: &[u8],
     start: usize,
     limit: Limit,
     depths: &mut [u16],
     labels: &mut [u32],
-) -> ReadAnswer
+) -> Result<Rows, Refusal>
     ensures answer { result ≡ read_of bytes.now start limit depths.old labels.old }
     ensures depths_after { depths.new ≡ filled result (depths_in bytes.now start) depths.old }
     ensures labels_after { labels.new ≡ filled result (labels_in bytes.now start) labels.old }
 {
-    let claimed = judge::claim(bytes, start, judge::most_rows(limit));
-    let agreed = judge::agree(bytes, start, claimed);
-    let answer = judge::room(agreed, depths.len(), labels.len());
-    fill(bytes, start, answer, depths, labels);
-    answer
+    let claimed = judge::claim(bytes, start, judge::most_rows(limit))?;
+    let parcel = Parcel {
+        bytes,
+        start,
+        rows: claimed,
+    };
+    let agreed = parcel.agree()?;
+    let rows = judge::room(agreed, depths.len(), labels.len())?;
+    fields::fill(bytes, start + 4, rows.count, labels);
+    fields::fill(bytes, parcel.depths_at(), rows.count, depths);
+    Ok(rows)
 }

@@ -1,5 +1,5 @@
 // Single numbers in bytes, little-endian: two bytes for a depth, four for a label, a count or a sum.
-ghost use Rattle.std.specs.Prelude.{◌≡◌, ◌+◌, ◌≤◌, length, drop, nat_lt};
+ghost use Rattle.std.specs.Prelude.{◌≡◌, ℕ, ◌+◌, ◌≤◌, length, drop, nat_lt};
 ghost use Rattle.std.proofs.lemmas.List.Edits.{sets};
 ghost use Rattle.parcels.specs.Numbers.{le, number};
 
@@ -7,57 +7,72 @@ ghost use Rattle.parcels.specs.Numbers.{le, number};
 pub(crate) fn ends(length: usize, at: usize, size: usize) -> bool
     ensures { result ≡ nat_lt length (at + size) }
 {
-    if length < at {
-        return true;
+    length < at || length - at < size
+}
+
+// A number of a section, and its width in bytes.
+pub(crate) trait Field: Copy {
+    ghost WIDTH: { ℕ };
+
+    ghost value: { Self → ℕ };
+
+    const WIDTH: usize;
+
+    // The number that the bytes from a place on make.
+    fn read(bytes: &[u8], at: usize) -> Self
+        requires { at + WIDTH ≤ length bytes.now }
+        ensures { value result ≡ number WIDTH (drop at bytes.now) };
+
+    // Puts the number into bytes from a place on. Other bytes stay.
+    fn put(self, bytes: &mut [u8], at: usize)
+        requires { at + WIDTH ≤ length bytes.old }
+        ensures { bytes.new ≡ sets bytes.old at (le WIDTH (value self)) };
+
+    // The number as a word that the sums add up.
+    fn word(self) -> u32
+        ensures { result ≡ value self };
+}
+
+impl Field for u16 {
+    ghost WIDTH = { 2 };
+
+    ghost value = { λ x. x };
+
+    const WIDTH: usize = 2;
+
+    #[tactic(auto, using(crate::proofs::LittleEndian::number_two))]
+    fn read(bytes: &[u8], at: usize) -> u16 {
+        u16::from_le_bytes([bytes[at], bytes[at + 1]])
     }
-    if length - at < size {
-        return true;
+
+    #[tactic(auto, using(crate::proofs::LittleEndian::copied, crate::proofs::LittleEndian::le_two, crate::proofs::Runs::le_length))]
+    fn put(self, bytes: &mut [u8], at: usize) {
+        bytes[at..at + 2].copy_from_slice(&self.to_le_bytes());
     }
-    false
+
+    fn word(self) -> u32 {
+        u32::from(self)
+    }
 }
 
-fn wide_u16(byte: u8) -> u16
-    ensures { result ≡ byte }
-{
-    byte as u16
-}
+impl Field for u32 {
+    ghost WIDTH = { 4 };
 
-pub(crate) fn wide_u32(half: u16) -> u32
-    ensures { result ≡ half }
-{
-    half as u32
-}
+    ghost value = { λ x. x };
 
-// The number that two bytes from a place on make.
-pub(crate) fn number_u16(bytes: &[u8], at: usize) -> u16
-    requires { at + 2 ≤ length bytes.now }
-    ensures { result ≡ number 2 (drop at bytes.now) }
-{
-    wide_u16(bytes[at]) + 256 * wide_u16(bytes[at + 1])
-}
+    const WIDTH: usize = 4;
 
-// The number that four bytes from a place on make.
-pub(crate) fn number_u32(bytes: &[u8], at: usize) -> u32
-    requires { at + 4 ≤ length bytes.now }
-    ensures { result ≡ number 4 (drop at bytes.now) }
-{
-    wide_u32(number_u16(bytes, at)) + 65536 * wide_u32(number_u16(bytes, at + 2))
-}
+    #[tactic(auto, using(crate::proofs::LittleEndian::number_four))]
+    fn read(bytes: &[u8], at: usize) -> u32 {
+        u32::from_le_bytes([bytes[at], bytes[at + 1], bytes[at + 2], bytes[at + 3]])
+    }
 
-// Puts a number as two bytes from a place on.
-pub(crate) fn put_u16(bytes: &mut [u8], at: usize, value: u16)
-    requires { at + 2 ≤ length bytes.old }
-    ensures { bytes.new ≡ sets bytes.old at (le 2 value) }
-{
-    bytes[at] = (value % 256) as u8;
-    bytes[at + 1] = (value / 256) as u8;
-}
+    #[tactic(auto, using(crate::proofs::LittleEndian::copied, crate::proofs::LittleEndian::le_four, crate::proofs::Runs::le_length))]
+    fn put(self, bytes: &mut [u8], at: usize) {
+        bytes[at..at + 4].copy_from_slice(&self.to_le_bytes());
+    }
 
-// Puts a number as four bytes from a place on.
-pub(crate) fn put_u32(bytes: &mut [u8], at: usize, value: u32)
-    requires { at + 4 ≤ length bytes.old }
-    ensures { bytes.new ≡ sets bytes.old at (le 4 value) }
-{
-    put_u16(bytes, at, (value % 65536) as u16);
-    put_u16(bytes, at + 2, (value / 65536) as u16);
+    fn word(self) -> u32 {
+        self
+    }
 }

@@ -12,15 +12,15 @@ use std::io;
 use std::io::Read;
 
 // Reads until the buffer is full, the input ends or a read fails, and gives how many bytes stand at the buffer's front.
+// By hand, as the project asks for no memory: of std's calls `read_exact` tells no count, and only `read_to_end`, into a `Vec`, does.
 fn read_full(reader: &mut impl Read, buffer: &mut [u8]) -> usize
     ensures { result ≤ length buffer.new }
 {
     let mut count = 0;
     while count < buffer.len() {
         match reader.read(&mut buffer[count..]) {
-            Ok(0) => break,
+            Ok(0) | Err(_) => break,
             Ok(n) => count += n,
-            Err(_) => break,
         }
     }
     count
@@ -29,7 +29,7 @@ fn read_full(reader: &mut impl Read, buffer: &mut [u8]) -> usize
 fn main(rt: HostRuntime) -> io::Result<()> {
     let mut input = [0u8; 26153];
     let count = read_full(&mut rt.stdin(), &mut input);
-    let mut answer = [0u8; 1295];
+    let mut answer = [0; host::ANSWER_BYTES];
     let length = host::polashvek_answer(&input[..count], &mut answer);
     rt.write_all(&answer[..length])
 }

@@ -5,8 +5,9 @@ use mathlib.Core.List.{List}
 use Prim.Native.Nat.{ℕ}
 use native.Mathlib.Omega.{arith}
 use Rattle.rows.specs.FirstBad.{first_bad, BadStepAt, TooDeepAt}
-use Rattle.rows.specs.declared.RowCheck.{RowCheck}
-use Rattle.rows.specs.declared.RowCheck.TheVariants as found
+use Rattle.rows.specs.declared.BadRow.{BadRow}
+use Rattle.rows.specs.declared.BadRow.TheVariants.{Step, TooDeep}
+use Rattle.std.specs.Prelude.{Result, Ok, Err}
 use Rattle.rows.proofs.FirstBad.{bad_step_iff, too_deep_iff}
 use Rattle.promises.specs.Table.{Given, this, below, At, Fine}
 use Rattle.promises.specs.DemandOne.{Seen, answered, refused, ByTable}
@@ -45,16 +46,20 @@ tested true number place next y n k = given place (refl, y refl) (λ q w. w.0)
 tested false number place next y n k = passed (λ q w. n refl w.1) (k refl)
 
 -- the two rows for the first bad row of a table
-pub rows_judged : {Below : ℕ → ℕ → Type 0} (ds : List ℕ) (step deep : ℕ) (next : Seen) → (first_bad ds ≡ found.Fine → ByTable Below next)
-    → ByTable (Given step (BadStepAt ds) (Given deep (TooDeepAt ds) Below))
-    (elim (first_bad ds) [ found.Fine ↦ next | found.BadStep v ↦ refused step v | found.TooDeep v ↦ refused deep v ])
+abbrev pub seen_row : ℕ → ℕ → Seen → Result (Unit {0}) BadRow → Seen
+seen_row step deep next (Ok u) = next
+seen_row step deep next (Err (Step v)) = refused step v
+seen_row step deep next (Err (TooDeep v)) = refused deep v
+
+pub rows_judged : {Below : ℕ → ℕ → Type 0} (ds : List ℕ) (step deep : ℕ) (next : Seen) → (first_bad ds ≡ Ok tt → ByTable Below next)
+    → ByTable (Given step (BadStepAt ds) (Given deep (TooDeepAt ds) Below)) (seen_row step deep next (first_bad ds))
 rows_judged {Below} ds step deep next k = go (first_bad ds) refl
   where
-    go : (r : RowCheck) → first_bad ds ≡ r → ByTable (Given step (BadStepAt ds) (Given deep (TooDeepAt ds) Below))
-        (elim r [ found.Fine ↦ next | found.BadStep v ↦ refused step v | found.TooDeep v ↦ refused deep v ])
-    go found.Fine e =
+    go : (r : Result (Unit {0}) BadRow) → first_bad ds ≡ r
+        → ByTable (Given step (BadStepAt ds) (Given deep (TooDeepAt ds) Below)) (seen_row step deep next r)
+    go (Ok u) e =
         passed (λ q w. let f = (bad_step_iff ds q).1 w in never (cc)) (passed (λ q w. let f = (too_deep_iff ds q).1 w in never (cc)) (k e))
-    go (found.BadStep v) e = given v ((bad_step_iff ds v).0 e) (λ q w. let f = (bad_step_iff ds q).1 w in cc)
-    go (found.TooDeep v) e =
+    go (Err (Step v)) e = given v ((bad_step_iff ds v).0 e) (λ q w. let f = (bad_step_iff ds q).1 w in cc)
+    go (Err (TooDeep v)) e =
         passed (λ q w. let f = (bad_step_iff ds q).1 w in never (cc))
         (given v ((too_deep_iff ds v).0 e) (λ q w. let f = (too_deep_iff ds q).1 w in cc))

@@ -13,10 +13,8 @@ use Rattle.rows.specs.Limits.{recipe_rows, listing_rows}
 use Rattle.matching.specs.Refusals.{tables_check}
 use Rattle.matching.specs.Answer.{include_check, Answers}
 use Rattle.matching.specs.Judge.{Judged}
-use Rattle.matching.specs.declared.Answer as matching
+use Rattle.std.specs.Prelude.{Ok, Err}
 use Rattle.matching.specs.declared.Answer.TheVariants as answer
-use Rattle.matching.specs.declared.Judgement.{Judgement}
-use Rattle.matching.specs.declared.Judgement.TheVariants as judged
 use Rattle.matching.proofs.Refusals.{told, told_if, told_first}
 use Rattle.parcels.specs.Numbers.{number}
 use Rattle.parcels.specs.Refusals.{number_of, place_of}
@@ -24,52 +22,48 @@ use Rattle.parcels.specs.Read.{depths_at, depths_in, labels_in, filled}
 use Rattle.parcels.specs.Write.{length_of, write_of, written_by}
 use Rattle.parcels.specs.Parcel.{parcel_of}
 use Rattle.parcels.specs.declared.Limit.TheVariants.{Recipe, Listing}
-use Rattle.parcels.specs.declared.ReadAnswer.{ReadAnswer}
-use Rattle.parcels.specs.declared.ReadAnswer.TheVariants as reading
-use Rattle.parcels.specs.declared.WriteAnswer.{WriteAnswer}
-use Rattle.parcels.specs.declared.WriteAnswer.TheVariants as writing
 use Rattle.parcels.proofs.LittleEndian.{numbers_length}
 use Rattle.parcels.proofs.Accepting.{accepted}
-use Rattle.journal.specs.declared.Verdict.{Verdict}
-use Rattle.journal.specs.declared.Verdict.TheVariants.{Allowed, Denied}
 use Rattle.journal.specs.Lent.{Lent, struck, undone}
 use Rattle.journal.specs.Refusals as journal
 use Rattle.journal.specs.Outcome.{Outcome, Meets}
 use Rattle.host.specs.Line.{line, refused_word}
+use Rattle.host.specs.Refusals.{said_number, said_place}
 use Rattle.host.specs.Outcome.{zeros, recipe_read, listing_read, outcome_of, RefusedAs, FromTables, FromListing, FromRecipe}
 use Rattle.host.specs.Host.{line_of, answer_bytes, Answered, Entered}
 use Rattle.host.proofs.Longest.{line_fits}
 use Rattle.host.proofs.LongInput.{line_front}
 use Rattle.promises.specs.Table.{Given, At, TablesRows, ReadRows, IncludeTable, JudgeTable, WriteTable, EntryTable, Fine}
+use Rattle.promises.specs.Calls.{Inclusion, Judgement, ReadAnswer, WriteAnswer}
 use Rattle.promises.specs.DemandOne.{Seen, answered, refused, of_answer, of_judgement, of_read, of_write, of_call, ByTable, IsRefused, Shows, SeenLine, DemandOne}
 use Rattle.promises.proofs.ByTable.{never, fine, given, passed}
 use Rattle.promises.proofs.TableRows.{seen_table, tables_rows, include_rows, seen_verdict, strike_rows, undo_rows}
 use Rattle.promises.proofs.ReadRows.{seen_read, read_rows}
 
 -- the inclusion call and the judge: what their check tells is what they answer
-told_answer : (rd rl td tl m : List ℕ) (r : matching.Answer) (n : List ℕ) → Answers rd rl td tl m r n → told seen_table answered (include_check rd rl td tl m) ≡ of_answer r
-told_answer rd rl td tl m (answer.Included c) n a = ap (told seen_table answered) a.0
-told_answer rd rl td tl m (answer.Absent c) n a = ap (told seen_table answered) a.0
-told_answer rd rl td tl m (answer.Refused x) n a = ap (told seen_table answered) a.0
+told_answer : (rd rl td tl m : List ℕ) (r : Inclusion) (n : List ℕ) → Answers rd rl td tl m r n → told seen_table answered (include_check rd rl td tl m) ≡ of_answer r
+told_answer rd rl td tl m (Ok (answer.Included c)) n a = ap (told seen_table answered) a.0
+told_answer rd rl td tl m (Ok (answer.Absent c)) n a = ap (told seen_table answered) a.0
+told_answer rd rl td tl m (Err x) n a = ap (told seen_table answered) a.0
 
-map_kept : (rd rl td tl m : List ℕ) (r : matching.Answer) (n : List ℕ) → Answers rd rl td tl m r n → IsRefused (of_answer r) → n ≡ m
-map_kept rd rl td tl m (answer.Included c) n a (k, (p, e)) = never (cc)
-map_kept rd rl td tl m (answer.Absent c) n a (k, (p, e)) = never (cc)
-map_kept rd rl td tl m (answer.Refused x) n a f = a.1
+map_kept : (rd rl td tl m : List ℕ) (r : Inclusion) (n : List ℕ) → Answers rd rl td tl m r n → IsRefused (of_answer r) → n ≡ m
+map_kept rd rl td tl m (Ok (answer.Included c)) n a (k, (p, e)) = never (cc)
+map_kept rd rl td tl m (Ok (answer.Absent c)) n a (k, (p, e)) = never (cc)
+map_kept rd rl td tl m (Err x) n a f = a.1
 
 told_judgement : (rd rl td tl : List ℕ) (r : Judgement) → Judged rd rl td tl r → told seen_table answered (tables_check rd rl td tl) ≡ of_judgement r
-told_judgement rd rl td tl judged.Included j = ap (told seen_table answered) j.0
-told_judgement rd rl td tl judged.Absent j = ap (told seen_table answered) j.0
-told_judgement rd rl td tl (judged.Refused x) j = ap (told seen_table answered) j
+told_judgement rd rl td tl (Ok true) j = ap (told seen_table answered) j.0
+told_judgement rd rl td tl (Ok false) j = ap (told seen_table answered) j.0
+told_judgement rd rl td tl (Err x) j = ap (told seen_table answered) j
 
 -- the reader
 read_seen : (a : ReadAnswer) → seen_read a answered ≡ of_read a
-read_seen (reading.Rows n place) = refl
-read_seen (reading.Refused x) = refl
+read_seen (Ok rows) = refl
+read_seen (Err x) = refl
 
 rows_kept : (a : ReadAnswer) (rows : ℕ → List ℕ) (slots : List ℕ) → IsRefused (of_read a) → filled a rows slots ≡ slots
-rows_kept (reading.Rows n place) rows slots (k, (p, e)) = never (cc)
-rows_kept (reading.Refused x) rows slots f = refl
+rows_kept (Ok given) rows slots (k, (p, e)) = never (cc)
+rows_kept (Err x) rows slots f = refl
 
 -- the writer
 write_rows : (depths labels bytes : List ℕ) → ByTable (WriteTable depths labels bytes) (of_write (write_of depths labels bytes))
@@ -89,16 +83,16 @@ write_rows depths labels bytes =
         (passed (λ q x. x.1 s) (passed (λ q x. omega (arith, x.1)) (passed (λ q x. omega (arith, x.1)) fine)))
 
 bytes_kept : (a : WriteAnswer) (parcel bytes : List ℕ) → IsRefused (of_write a) → written_by a parcel bytes ≡ bytes
-bytes_kept (writing.Length n) parcel bytes (k, (p, e)) = never (cc)
-bytes_kept (writing.Refused x) parcel bytes f = refl
+bytes_kept (Ok n) parcel bytes (k, (p, e)) = never (cc)
+bytes_kept (Err x) parcel bytes f = refl
 
 -- strike and undo
 module _ {Table : ℕ → ℕ → Type 0} (after before : Lent) (o : Outcome) where
-  by_verdict : (v : Verdict) → ByTable Table (seen_verdict v answered) → Meets o (journal.answered v after) (journal.settled v after before)
+  by_verdict : (v : journal.Verdict) → ByTable Table (seen_verdict v answered) → Meets o (journal.answered v after) (journal.settled v after before)
       → ByTable Table (of_call o.answer)
       × (IsRefused (of_call o.answer) → (o.depths ≡ before.depths) × (o.labels ≡ before.labels) × (o.journal ≡ before.journal))
-  by_verdict Allowed t m = (rw m.answer t, λ f. let e = f.1.1 in let a = m.answer in never (cc))
-  by_verdict (Denied why) t m = (rw m.answer t, λ f. (m.depths, m.labels, m.journal))
+  by_verdict (Ok u) t m = (rw m.answer t, λ f. let e = f.1.1 in let a = m.answer in never (cc))
+  by_verdict (Err why) t m = (rw m.answer t, λ f. (m.depths, m.labels, m.journal))
 
 -- the C entry
 zeros_length : (n : ℕ) → length (zeros n) ≡ n
@@ -138,14 +132,14 @@ module _ (input : List ℕ) where
         let e = a.line.line in
         record { count = a.count ∙ ap length e; stored = a.stored ∙ ap (λ (x : List ℕ). x ++ drop (length x) before) e }
 
-    refusal_shown : (number place : ℕ) → RefusedAs number place a.line.outcome a.line.map → Shows (line refused_word (number ∷ place ∷ [])) before r after
-    refusal_shown number place f = rw f.0 at shown
+    refusal_shown : {x : _} → RefusedAs x a.line.outcome a.line.map → Shows (line refused_word (said_number x ∷ said_place x ∷ [])) before r after
+    refusal_shown f = rw f.0 at shown
 
     rows_recipe : length (depths_in input 0 n) ≡ n
     rows_recipe = numbers_length 2 n (drop (depths_at 0 n) input)
 
     -- the inclusion answer: 10 is never given, for there are 256 slots
-    question : n ≤ recipe_rows → (x : matching.Answer)
+    question : n ≤ recipe_rows → (x : Inclusion)
         → Answers (depths_in input 0 n) (labels_in input 0 n) (depths_in input start k) (labels_in input start k) (zeros recipe_rows) x a.line.map
         → a.line.outcome ≡ outcome_of (length (depths_in input 0 n)) x → Settled Question
     question h x q e = (of_answer x, subst (ByTable Question) (sym same ∙ told_answer _ _ _ _ _ x _ q) (tables_rows _ _ _ _ answered fine), shows x q (rw (e, rows_recipe) at shown))
@@ -154,29 +148,31 @@ module _ (input : List ℕ) where
             ≡ told seen_table answered (tables_check (depths_in input 0 n) (labels_in input 0 n) (depths_in input start k) (labels_in input start k))
         same = rw (told_first, told_if, le-ltb (length (zeros recipe_rows)) (length (depths_in input 0 n)) (omega (arith, zeros_length recipe_rows, rows_recipe)))
 
-        shows : (x : matching.Answer)
+        shows : (x : Inclusion)
             → Answers (depths_in input 0 n) (labels_in input 0 n) (depths_in input start k) (labels_in input start k) (zeros recipe_rows) x a.line.map
             → Shows (line_of (outcome_of n x) a.line.map) before r after → SeenLine (of_answer x) input n k before r after
-        shows (answer.Included c) q s = (answer.Included c, (a.line.map, q, inl (c, refl), s))
-        shows (answer.Absent c) q s = (answer.Absent c, (a.line.map, q, inr (c, refl), s))
-        shows (answer.Refused y) q s = s
+        shows (Ok (answer.Included c)) q s = (Ok (answer.Included c), (a.line.map, q, inl (c, refl), s))
+        shows (Ok (answer.Absent c)) q s = (Ok (answer.Absent c), (a.line.map, q, inr (c, refl), s))
+        shows (Err y) q s = s
 
     -- 15, or the inclusion answer
     after_listing : n ≤ recipe_rows → (b : Bool) → ltb end (length input) ≡ b
         → FromTables (depths_in input 0 n) (labels_in input 0 n) (depths_in input start k) (labels_in input start k) end b a.line.outcome a.line.map
         → Settled AfterListing
-    after_listing h true e f = (refused 15 end, given end (refl, ltb-true end (length input) e) (λ q x. x.0), refusal_shown 15 end f)
+    after_listing h true e f = (refused 15 end, given end (refl, ltb-true end (length input) e) (λ q x. x.0), refusal_shown f)
     after_listing h false e f =
         let s = question h f.0 f.1 f.2 in (s.0, passed (λ q x. omega (arith, x.1, ltb-false end (length input) e)) s.1, s.2)
 
     after_recipe : n ≤ recipe_rows → (x : ReadAnswer) → listing_read input start ≡ x
         → FromListing input (depths_in input 0 n) (labels_in input 0 n) start x a.line.outcome a.line.map → Settled AfterRecipe
-    after_recipe h (reading.Refused x) e f = (
+    after_recipe h (Err x) e f = (
       refused (number_of x) (place_of x),
       rw (e, zeros_length listing_rows) at (read_rows input start Listing (zeros listing_rows) (zeros listing_rows) {Below = AfterListing} answered (λ m p d. never (cc))),
-      refusal_shown (number_of x) (place_of x) f,
+      refusal_shown f,
     )
-    after_recipe h (reading.Rows m p) e f =
+    after_recipe h (Ok rows) e f =
+        let m = rows.count in
+        let p = rows.next in
         let c = (accepted input start Listing (zeros listing_rows) (zeros listing_rows) m p e).claimed in
         let i : m ≡ k = sym c.first in
         let j : p ≡ end = c.place ∙ ap (λ (x : ℕ). start + (20 + 6 * x)) i in
@@ -184,12 +180,14 @@ module _ (input : List ℕ) where
         (s.0, rw (e, zeros_length listing_rows) at (read_rows input start Listing (zeros listing_rows) (zeros listing_rows) s.0 (λ _ _ _. s.1)), s.2)
 
     at_first : (x : ReadAnswer) → recipe_read input ≡ x → FromRecipe input x a.line.outcome a.line.map → Settled (EntryTable input)
-    at_first (reading.Refused x) e f = (
+    at_first (Err x) e f = (
       refused (number_of x) (place_of x),
       rw (e, zeros_length recipe_rows) at (read_rows input 0 Recipe (zeros recipe_rows) (zeros recipe_rows) {Below = AfterRecipe} answered (λ m p d. never (cc))),
-      refusal_shown (number_of x) (place_of x) f,
+      refusal_shown f,
     )
-    at_first (reading.Rows m p) e f =
+    at_first (Ok rows) e f =
+        let m = rows.count in
+        let p = rows.next in
         let c = (accepted input 0 Recipe (zeros recipe_rows) (zeros recipe_rows) m p e).claimed in
         let i : m ≡ n = sym c.first in
         let j : p ≡ start = omega (arith, c.place) in

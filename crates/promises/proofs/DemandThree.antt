@@ -7,17 +7,15 @@ use native.Mathlib.Omega.{arith}
 use lib.ListN.{length, take}
 use lib.Seq.{length-take-le}
 use Rattle.rows.specs.Embedding.{SameLabel, Embedding}
+use Rattle.std.specs.Prelude.{Ok, Err}
 use Rattle.matching.specs.declared.Answer.TheVariants as answer
 use Rattle.matching.specs.declared.Corner.{Corner}
 use Rattle.matching.specs.Answer.{Answers}
 use Rattle.matching.proofs.Verdict.{yes_good, yes_embeds, no_excluded}
-use Rattle.journal.specs.declared.Answer.{Answer}
 use Rattle.journal.specs.declared.Refusal.{Refusal}
-use Rattle.journal.specs.declared.Verdict.{Verdict}
-use Rattle.journal.specs.declared.Verdict.TheVariants.{Allowed, Denied}
 use Rattle.journal.specs.Entry.{room}
 use Rattle.journal.specs.Lent.{Lent, used_depths, used_labels, struck, undone}
-use Rattle.journal.specs.Refusals.{lent_verdict, strike_verdict, undo_verdict, answered, settled, strike_answer, after_strike, undo_answer, after_undo, Sound}
+use Rattle.journal.specs.Refusals.{Verdict, Answer, lent_verdict, strike_verdict, undo_verdict, answered, settled, strike_answer, after_strike, undo_answer, after_undo, Sound}
 use Rattle.journal.specs.Session.{Call, strike_row, undo_last, run, accepted, older, standing, strikes, undos, Stands}
 use Rattle.journal.specs.Kept.{then_named}
 use Rattle.journal.specs.Outcome.{Outcome, taken_over}
@@ -32,8 +30,8 @@ use Rattle.promises.proofs.DemandTwo.{front_map}
 
 -- the strikes standing by the answers are those standing by the judgements
 by_answer : (v : Verdict) (after : Lent) (a : Answer) (new old : List ℕ) → a ≡ answered v after → standing_now a new old ≡ accepted v new old
-by_answer Allowed after a new old e = ap (λ (x : Answer). standing_now x new old) e
-by_answer (Denied why) after a new old e = ap (λ (x : Answer). standing_now x new old) e
+by_answer (Ok u) after a new old e = ap (λ (x : Answer). standing_now x new old) e
+by_answer (Err why) after a new old e = ap (λ (x : Answer). standing_now x new old) e
 
 -- a series leaves what its calls leave one after another
 session : {s t : Lent} {st su : List ℕ} (cs : List Call) → Series s st cs t su → (t ≡ run cs s) × (su ≡ standing cs s st)
@@ -62,12 +60,12 @@ made s st (undo_last ∷ cs) =
     (i.0, (i.1.0, undo o (record { answer = refl; depths = refl; labels = refl; journal = refl }) i.1.1))
 
 -- what is not in order is refused
-not_lent : (s : Lent) → (Sound s → ⊥) → (why : Refusal) × (lent_verdict s ≡ Denied why)
+not_lent : (s : Lent) → (Sound s → ⊥) → (why : Refusal) × (lent_verdict s ≡ Err why)
 not_lent s n = go (lent_verdict s) refl
   where
-    go : (v : Verdict) → lent_verdict s ≡ v → (why : Refusal) × (lent_verdict s ≡ Denied why)
-    go Allowed e = absurd (n ((lent_iff s).0 e))
-    go (Denied why) e = (why, e)
+    go : (v : Verdict) → lent_verdict s ≡ v → (why : Refusal) × (lent_verdict s ≡ Err why)
+    go (Ok u) e = absurd (n ((lent_iff s).0 e))
+    go (Err why) e = (why, e)
 
 unchanged : {s t : Lent} {st su : List ℕ} {cs : List Call} → (Sound s → ⊥) → Series s st cs t su → (t ≡ s) × (su ≡ st)
 unchanged n none = (refl, refl)
@@ -94,7 +92,7 @@ undos_named n [] = refl
 undos_named n (o ∷ os) = ap (λ (cs : List Call). undo_last ∷ cs) (undos_named n os)
 
 -- on a yes the map that was written is an embedding in the used rows
-module _ (s : Lent) (rd rl m n : List ℕ) (c : Corner) (a : Answers rd rl (used_depths s) (used_labels s) m (answer.Included c) n) (k : Sound s) (os : List ℕ)
+module _ (s : Lent) (rd rl m n : List ℕ) (c : Corner) (a : Answers rd rl (used_depths s) (used_labels s) m (Ok (answer.Included c)) n) (k : Sound s) (os : List ℕ)
     (out : Outside (used_depths s) (take (length rd) n) os) (free : s.entries + length os ≤ room s.journal) where
   embeds : Embedding (SameLabel rl (used_labels s)) rd (used_depths s) (take (length rd) n)
   embeds = rw (front_map rd rl (used_depths s) (used_labels s) m n c a) (yes_embeds rd rl (used_depths s) (used_labels s) m c n a)

@@ -7,7 +7,7 @@ use native.Mathlib.Omega.{arith}
 use lib.ListN.{length, take, drop}
 use lib.Seq.{take_at, drop_at}
 use Rattle.rows.specs.Embedding.{SameLabel, Embedding, Included}
-use Rattle.matching.specs.declared.Answer.{Answer}
+use Rattle.std.specs.Prelude.{Ok, Err}
 use Rattle.matching.specs.declared.Answer.TheVariants as answer
 use Rattle.matching.specs.declared.Corner.{Corner}
 use Rattle.matching.specs.declared.Refusal.{Refusal}
@@ -19,15 +19,13 @@ use Rattle.parcels.specs.Parcel.{parcel_of}
 use Rattle.parcels.specs.Read.{depths_at, labels_at, depths_in, labels_in}
 use Rattle.parcels.specs.Write.{written_by}
 use Rattle.parcels.specs.declared.Limit.{Limit}
-use Rattle.parcels.specs.declared.ReadAnswer.{ReadAnswer}
-use Rattle.parcels.specs.declared.WriteAnswer.{WriteAnswer}
 use Rattle.parcels.proofs.LittleEndian.{numbers_length}
 use Rattle.parcels.proofs.Sections.{parcel_length}
 use Rattle.parcels.proofs.Writing.{wrote, front}
 use Rattle.parcels.proofs.Accepting.{accepted}
 use Rattle.parcels.proofs.ReadsBack.{Gives, reads_back_listing, reads_back_recipe}
 use Rattle.parcels.proofs.OneParcel.{stretch_parcel}
-use Rattle.promises.specs.Calls.{Reads}
+use Rattle.promises.specs.Calls.{Inclusion, ReadAnswer, WriteAnswer, Reads}
 use Rattle.promises.specs.DemandTwo.{Ordered, Exists, Decides, GivesBack, ReadAs, stretch, DemandTwo}
 
 never : {A : Type 0} → ◌≡◌ {A = ℕ} 0 1 → A
@@ -50,7 +48,7 @@ module _ (rd rl td tl m n : List ℕ) where
   of_found : Exists rd rl td tl → Included (SameLabel rl tl) rd td
   of_found f = (f.0, of_ordered rd rl td tl f.0 f.1 f.2)
 
-  module _ (c : Corner) (a : Answers rd rl td tl m (answer.Included c) n) where
+  module _ (c : Corner) (a : Answers rd rl td tl m (Ok (answer.Included c)) n) where
     ordered : Ordered rd rl td tl a.3.0
     ordered = to_ordered rd rl td tl a.3.0 (verdict.yes_embeds rd rl td tl m c n a)
 
@@ -63,7 +61,7 @@ module _ (rd rl td tl m n : List ℕ) where
     behind_map : drop (length rd) n ≡ drop (length rd) m
     behind_map = ap (drop (length rd)) a.3.2 ∙ drop_at a.3.0 (drop (length rd) m) (length rd) a.3.1.count
 
-    of_yes : Decides rd rl td tl m (answer.Included c) n
+    of_yes : Decides rd rl td tl m (Ok (answer.Included c)) n
     of_yes =
         let g = verdict.yes_good rd rl td tl m c n a in
         record {
@@ -81,8 +79,8 @@ module _ (rd rl td tl m n : List ℕ) where
           judge_no = λ _ _ s j. (λ y. let e = y.1 in never (cc), λ e. let f = verdict.judge_yes rd rl td tl m c n a s j in never (cc));
         }
 
-  module _ (c : Corner) (a : Answers rd rl td tl m (answer.Absent c) n) where
-    of_no : Decides rd rl td tl m (answer.Absent c) n
+  module _ (c : Corner) (a : Answers rd rl td tl m (Ok (answer.Absent c)) n) where
+    of_no : Decides rd rl td tl m (Ok (answer.Absent c)) n
     of_no =
         record {
           decides = λ _ _. inr (c, refl);
@@ -97,7 +95,7 @@ module _ (rd rl td tl m n : List ℕ) where
           judge_no = λ _ _ s j. (λ _. verdict.judge_no rd rl td tl m c n a s j, λ _. (c, refl));
         }
 
-  of_refusal : (x : Refusal) → Answers rd rl td tl m (answer.Refused x) n → Decides rd rl td tl m (answer.Refused x) n
+  of_refusal : (x : Refusal) → Answers rd rl td tl m (Err x) n → Decides rd rl td tl m (Err x) n
   of_refusal x a =
       record {
         decides = λ g h. absurd (verdict.not_refused rd rl td tl m x n g h a);
@@ -112,10 +110,10 @@ module _ (rd rl td tl m n : List ℕ) where
         judge_no = λ g h s j. absurd (verdict.not_refused rd rl td tl m x n g h a);
       }
 
-  answered : (r : Answer) → Answers rd rl td tl m r n → Decides rd rl td tl m r n
-  answered (answer.Included c) a = of_yes c a
-  answered (answer.Absent c) a = of_no c a
-  answered (answer.Refused x) a = of_refusal x a
+  answered : (r : Inclusion) → Answers rd rl td tl m r n → Decides rd rl td tl m r n
+  answered (Ok (answer.Included c)) a = of_yes c a
+  answered (Ok (answer.Absent c)) a = of_no c a
+  answered (Err x) a = of_refusal x a
 
 -- what a read gave is what the laws of parcels say
 gives_back : (bytes : List ℕ) (start : ℕ) (limit : Limit) (depths labels old_depths old_labels : List ℕ) (size : ℕ) (r : ReadAnswer) (new_depths new_labels : List ℕ)

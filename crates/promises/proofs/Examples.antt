@@ -5,6 +5,7 @@ use mathlib.Core.List.{List}
 use Prim.Native.Nat.{◌≤◌}
 use native.Mathlib.Omega.{arith}
 use lib.ListN.{length}
+use Rattle.std.specs.Prelude.{Ok}
 use Rattle.rows.specs.Limits.{recipe_rows}
 use Rattle.rows.specs.FirstBad.{check_from}
 use Rattle.matching.specs.Refusals.{recipe_check, listing_check}
@@ -30,9 +31,9 @@ use Rattle.promises.specs.Examples.{Example, asks, edits, over, bytes, input, Sa
 abbrev Comes : Example → Type 0
 Comes (asks rd rl td tl a images line) =
     Computed rd rl td tl a images
-    × (line_of (outcome_of (length rd) a) (over images (zeros recipe_rows)) ≡ bytes line)
-    × (FromTables rd rl td tl 0 false (outcome_of (length rd) a) (over images (zeros recipe_rows))
-    → FromRecipe (input rd rl td tl) (recipe_read (input rd rl td tl)) (outcome_of (length rd) a) (over images (zeros recipe_rows)))
+    × (line_of (outcome_of (length rd) (Ok a)) (over images (zeros recipe_rows)) ≡ bytes line)
+    × (FromTables rd rl td tl 0 false (outcome_of (length rd) (Ok a)) (over images (zeros recipe_rows))
+    → FromRecipe (input rd rl td tl) (recipe_read (input rd rl td tl)) (outcome_of (length rd) (Ok a)) (over images (zeros recipe_rows)))
 Comes (edits s (strike_row r) a t) = (strike_answer s r ≡ a) × (after_strike s r ≡ t)
 Comes (edits s undo_last a t) = (undo_answer s ≡ a) × (after_undo s ≡ t)
 
@@ -41,10 +42,10 @@ says : (x : Example) → Comes x → Says x
 says (asks rd rl td tl a images line) c =
     let n = over images (zeros recipe_rows) in
     let h : length rd ≤ length (zeros recipe_rows) = omega (arith, zeros_length recipe_rows, ((tables_fine rd rl td tl).0 c.0.0).recipe_few) in
-    let k = (answer_is rd rl td tl a images c.0 (zeros recipe_rows) h a n).1 (refl, refl) in (
+    let k = (answer_is rd rl td tl a images c.0 (zeros recipe_rows) h (Ok a) n).1 (refl, refl) in (
       answer_is rd rl td tl a images c.0,
       entry_is (input rd rl td tl) (bytes line)
-          (record { outcome = outcome_of (length rd) a; map = n; said = record { by_reading = c.2 (a, k, refl) }; line = sym c.1 }),
+          (record { outcome = outcome_of (length rd) (Ok a); map = n; said = record { by_reading = c.2 (Ok a, k, refl) }; line = sym c.1 }),
     )
 says (edits s (strike_row r) a t) c = λ o. rw (c.0, c.1) (λ m. m, λ m. m)
 says (edits s undo_last a t) c = λ o. rw (c.0, c.1) (λ m. m, λ m. m)

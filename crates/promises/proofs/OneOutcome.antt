@@ -75,6 +75,10 @@ one_outcome =
         says = λ κs a x end. (λ p. record { answer = p.0; bytes_after = p.1 }, λ p. (p.answer, p.bytes_after));
         one_outcome = λ κs a x y end other p q. let e = one_write κs a x y end other p q in (e.0, ap (λ (b : List ℕ). b ∷ []) e.1);
       };
+      matching_number = equation _ (λ κs a. tt) (λ κs a x end. (λ p. p, λ p. p));
+      matching_place = equation _ (λ κs a. tt) (λ κs a x end. (λ p. p, λ p. p));
+      parcels_number = equation _ (λ κs a. tt) (λ κs a x end. (λ p. p, λ p. p));
+      parcels_place = equation _ (λ κs a. tt) (λ κs a x end. (λ p. p, λ p. p));
       number_of = equation _ (λ κs a. tt) (λ κs a x end. (λ p. p, λ p. p));
       place_of = equation _ (λ κs a. tt) (λ κs a x end. (λ p. p, λ p. p));
       strike = record {

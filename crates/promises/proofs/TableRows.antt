@@ -11,23 +11,22 @@ use lib.Seq.{length-take-le}
 use borrow.Author.Tests.{ltb-true, ltb-false, leb-true, leb-false, eqb-true, eqb-false, not-true, not-false}
 use Rattle.rows.specs.Limits.{recipe_rows, listing_rows}
 use Rattle.rows.specs.FirstBad.{BadStepAt, TooDeepAt}
-use Rattle.rows.specs.declared.RowCheck.{RowCheck}
-use Rattle.rows.specs.declared.RowCheck.TheVariants as found
+use Rattle.rows.specs.declared.BadRow.{BadRow}
+use Rattle.rows.specs.declared.BadRow.TheVariants.{Step, TooDeep}
+use Rattle.std.specs.Prelude.{Result, Ok, Err}
 use Rattle.rows.proofs.FirstBad.{fine_iff}
 use Rattle.matching.specs.declared.Refusal as matching
 use Rattle.matching.specs.Refusals.{refusal_number, refusal_place, recipe_check, listing_check, tables_check}
 use Rattle.matching.specs.Answer.{include_check}
 use Rattle.matching.proofs.Refusals.{told, told_if, told_first, told_row}
 use Rattle.journal.specs.declared.Refusal.{Refusal}
-use Rattle.journal.specs.declared.Verdict.{Verdict}
-use Rattle.journal.specs.declared.Verdict.TheVariants.{Allowed, Denied}
 use Rattle.journal.specs.Entry.{entry_words, room, Undoable, may_return}
 use Rattle.journal.specs.Lent.{Lent, used_depths, used_labels, newest}
 use Rattle.journal.specs.Refusals as journal
 use Rattle.journal.proofs.Returns.{undoable_iff}
-use Rattle.promises.specs.Table.{Given, At, Fine, TablesRows, IncludeTable, LentRows, StrikeTable, UndoTable}
+use Rattle.promises.specs.Table.{Given, At, TablesRows, IncludeTable, LentRows, StrikeTable, UndoTable}
 use Rattle.promises.specs.DemandOne.{Seen, answered, refused, ByTable}
-use Rattle.promises.proofs.ByTable.{never, fine, given, passed, tested, rows_judged}
+use Rattle.promises.proofs.ByTable.{never, fine, given, passed, tested, seen_row, rows_judged}
 
 -- 1 to 9, and 10
 abbrev pub seen_table : matching.Refusal → Seen
@@ -67,26 +66,26 @@ include_rows rd rl td tl m =
     (rw told_if (tested (ltb (length m) (length rd)) 10 0 _ (ltb-true _ _) (λ e h. omega (arith, ltb-false (length m) (length rd) e)) (λ e. fine))))
 
 -- 21 to 29
-abbrev pub seen_verdict : Verdict → Seen → Seen
-seen_verdict Allowed next = next
-seen_verdict (Denied x) next = refused (journal.number x) (journal.place x)
+abbrev pub seen_verdict : journal.Verdict → Seen → Seen
+seen_verdict (Ok u) next = next
+seen_verdict (Err x) next = refused (journal.number x) (journal.place x)
 
-unless_rows : {Fact : Type 0} {Below : ℕ → ℕ → Type 0} (b : Bool) (why : Refusal) (v : Verdict) (next : Seen) → (b ≡ false → Fact) → (b ≡ true → Fact → ⊥)
+unless_rows : {Fact : Type 0} {Below : ℕ → ℕ → Type 0} (b : Bool) (why : Refusal) (v : journal.Verdict) (next : Seen) → (b ≡ false → Fact) → (b ≡ true → Fact → ⊥)
     → (b ≡ true → ByTable Below (seen_verdict v next))
     → ByTable (Given (journal.number why) (At (journal.place why) Fact) Below) (seen_verdict (journal.unless b why v) next)
 unless_rows true why v next y n k = passed (λ q w. n refl w.1) (k refl)
 unless_rows false why v next y n k = given (journal.place why) (refl, y refl) (λ q w. w.0)
 
-then_seen : (u v : Verdict) (next : Seen) → seen_verdict (journal.and_then u v) next ≡ seen_verdict u (seen_verdict v next)
-then_seen Allowed v next = refl
-then_seen (Denied why) v next = refl
+then_seen : (u v : journal.Verdict) (next : Seen) → seen_verdict (journal.and_then u v) next ≡ seen_verdict u (seen_verdict v next)
+then_seen (Ok u) v next = refl
+then_seen (Err why) v next = refl
 
 -- 23: the first bad row, for its step or its depth
-bad_seen : (r : RowCheck) (v : Verdict) (next : Seen)
-    → seen_verdict (journal.unless_bad r v) next ≡ elim r [ found.Fine ↦ seen_verdict v next | found.BadStep u ↦ refused 23 u | found.TooDeep u ↦ refused 23 u ]
-bad_seen found.Fine v next = refl
-bad_seen (found.BadStep u) v next = refl
-bad_seen (found.TooDeep u) v next = refl
+bad_seen : (r : Result (Unit {0}) BadRow) (v : journal.Verdict) (next : Seen)
+    → seen_verdict (journal.unless_bad r v) next ≡ seen_row 23 23 (seen_verdict v next) r
+bad_seen (Ok u) v next = refl
+bad_seen (Err (Step u)) v next = refl
+bad_seen (Err (TooDeep u)) v next = refl
 
 module _ (s : Lent) where
   lent_rows : {Below : ℕ → ℕ → Type 0} (next : Seen) → (journal.Sound s → ByTable Below next) → ByTable (LentRows s Below) (seen_verdict (journal.lent_verdict s) next)

@@ -2,33 +2,23 @@
 -- refusal changes nothing that was lent (the C entry alone writes its refusal line)."
 -- That a call ends, and takes every input, is what a proved contract with no `requires` means: the prover admits no function that may not end,
 -- and OneOutcome has that no call asks anything of its caller. What is lent as `&`, and not as `&mut`, no call can write. Assumes nothing.
-use Rattle.std.specs.Prelude.{◌≡◌, ◌↔◌, ◌⊎◌, List, [], ◌∷◌, ◌++◌, ℕ, ◌+◌, ◌*◌, ◌^◌, ◌≤◌, ◌<◌, length, take, drop}
+use Rattle.std.specs.Prelude.{◌≡◌, ◌↔◌, ◌⊎◌, Ok, Err, List, [], ◌∷◌, ◌++◌, ℕ, ◌+◌, ◌*◌, ◌^◌, ◌≤◌, ◌<◌, length, take, drop}
 use Rattle.rows.specs.Limits.{recipe_rows}
 use Rattle.matching.specs.Refusals.{refusal_number, refusal_place}
 use Rattle.matching.specs.Answer.{Answers}
 use Rattle.matching.specs.Judge.{Judged}
-use Rattle.matching.specs.declared.Answer as matching
-use Rattle.matching.specs.declared.Answer.TheVariants as answer
-use Rattle.matching.specs.declared.Judgement.{Judgement}
-use Rattle.matching.specs.declared.Judgement.TheVariants as judged
 use Rattle.parcels.specs.Numbers.{number}
 use Rattle.parcels.specs.Refusals.{number_of, place_of}
 use Rattle.parcels.specs.Read.{depths_in, labels_in}
 use Rattle.parcels.specs.declared.Limit.{Limit}
-use Rattle.parcels.specs.declared.ReadAnswer.{ReadAnswer}
-use Rattle.parcels.specs.declared.ReadAnswer.TheVariants as reading
-use Rattle.parcels.specs.declared.WriteAnswer.{WriteAnswer}
-use Rattle.parcels.specs.declared.WriteAnswer.TheVariants as writing
 use Rattle.journal.specs.Lent.{Lent}
 use Rattle.journal.specs.Refusals as journal
 use Rattle.journal.specs.Outcome.{Outcome, MeetsStrike, MeetsUndo}
-use Rattle.journal.specs.declared.Answer.{Answer}
-use Rattle.journal.specs.declared.Answer.TheVariants.{Done, Refused}
 use Rattle.host.specs.Line.{line, refused_word}
 use Rattle.host.specs.Outcome.{zeros, outcome_of}
 use Rattle.host.specs.Host.{line_of, answer_bytes, Entry}
 use Rattle.promises.specs.Table.{JudgeTable, IncludeTable, ReadTable, WriteTable, StrikeTable, UndoTable, EntryTable}
-use Rattle.promises.specs.Calls.{Reads, Writes}
+use Rattle.promises.specs.Calls.{Inclusion, Judgement, ReadAnswer, WriteAnswer, Reads, Writes}
 use Rattle.promises.specs.DemandTwo.{Yes, No}
 
 -- what is seen of an answer: that it is one, or the number and place of a refusal
@@ -36,27 +26,25 @@ pub data Seen : Type 0 where
   answered : Seen
   refused : ℕ → ℕ → Seen
 
-abbrev pub of_answer : matching.Answer → Seen
-of_answer (answer.Included corner) = answered
-of_answer (answer.Absent corner) = answered
-of_answer (answer.Refused x) = refused (refusal_number x) (refusal_place x)
+abbrev pub of_answer : Inclusion → Seen
+of_answer (Ok answer) = answered
+of_answer (Err x) = refused (refusal_number x) (refusal_place x)
 
 abbrev pub of_judgement : Judgement → Seen
-of_judgement judged.Included = answered
-of_judgement judged.Absent = answered
-of_judgement (judged.Refused x) = refused (refusal_number x) (refusal_place x)
+of_judgement (Ok included) = answered
+of_judgement (Err x) = refused (refusal_number x) (refusal_place x)
 
 abbrev pub of_read : ReadAnswer → Seen
-of_read (reading.Rows n next) = answered
-of_read (reading.Refused x) = refused (number_of x) (place_of x)
+of_read (Ok rows) = answered
+of_read (Err x) = refused (number_of x) (place_of x)
 
 abbrev pub of_write : WriteAnswer → Seen
-of_write (writing.Length n) = answered
-of_write (writing.Refused x) = refused (number_of x) (place_of x)
+of_write (Ok n) = answered
+of_write (Err x) = refused (number_of x) (place_of x)
 
-abbrev pub of_call : Answer → Seen
-of_call (Done rows entries) = answered
-of_call (Refused x) = refused (journal.number x) (journal.place x)
+abbrev pub of_call : journal.Answer → Seen
+of_call (Ok counts) = answered
+of_call (Err x) = refused (journal.number x) (journal.place x)
 
 -- a number is given at a place exactly where the table gives it
 abbrev pub ByTable : (ℕ → ℕ → Type 0) → Seen → Type 0
@@ -73,7 +61,7 @@ pub record Shows (bytes before : List ℕ) (r : ℕ) (after : List ℕ) : Type 0
 -- the line of the inclusion answer about the recipe of n rows and the listing of k rows in the input
 abbrev pub AnswerLine : List ℕ → ℕ → ℕ → List ℕ → ℕ → List ℕ → Type 0
 AnswerLine input n k before r after =
-    (a : matching.Answer) × ((map : List ℕ)
+    (a : Inclusion) × ((map : List ℕ)
     × Answers (depths_in input 0 n) (labels_in input 0 n) (depths_in input (20 + 6 * n) k) (labels_in input (20 + 6 * n) k) (zeros recipe_rows) a map
     × (Yes a ⊎ No a) × Shows (line_of (outcome_of n a) map) before r after)
 
@@ -84,7 +72,7 @@ SeenLine answered input n k before r after = AnswerLine input n k before r after
 
 pub record DemandOne : Type 0 where
   -- the inclusion call: refused exactly as 1 to 10 say, and then the map slice is as it was
-  pub include : (rd rl td tl m : List ℕ) (r : matching.Answer) (n : List ℕ) → Answers rd rl td tl m r n
+  pub include : (rd rl td tl m : List ℕ) (r : Inclusion) (n : List ℕ) → Answers rd rl td tl m r n
       → ByTable (IncludeTable rd rl td tl m) (of_answer r) × (IsRefused (of_answer r) → n ≡ m)
   -- the plain judge: refused exactly as 1 to 9 say; it is lent nothing that it could write
   pub judge : (rd rl td tl : List ℕ) (r : Judgement) → Judged rd rl td tl r → ByTable (JudgeTable rd rl td tl) (of_judgement r)

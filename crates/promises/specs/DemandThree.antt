@@ -1,7 +1,7 @@
 -- Demand 3: "After any series of strikes and undos the table is what the standing strikes make of the first one. On a yes, striking every
 -- row outside the map, in any order, leaves exactly the recipe, and undoing restores the listing. On a no, no series of strikes leaves
 -- the recipe." A `Series` may stop after any call, so each statement is one about the table after every step. Assumes nothing.
-use Rattle.std.specs.Prelude.{◌≡◌, not, ◌⊎◌, List, [], ℕ, ◌+◌, ◌≤◌, length, take}
+use Rattle.std.specs.Prelude.{◌≡◌, not, ◌⊎◌, Ok, List, [], ℕ, ◌+◌, ◌≤◌, length, take}
 use Rattle.rows.specs.Rows.{Row}
 use Rattle.matching.specs.declared.Answer.TheVariants as answer
 use Rattle.matching.specs.declared.Corner.{Corner}
@@ -44,13 +44,13 @@ pub record DemandThree : Type 0 where
   pub refused : (s t : Lent) (cs : List Call) (st su : List ℕ) → (Sound s → ⊥) → Series s st cs t su → (t ≡ s) × (su ≡ st)
   -- on a yes about the used rows: the strikes of all rows outside the map, in any order, each row named by the number that it has then,
   -- with room for their entries, leave exactly the recipe
-  pub yes_leaves : (s t : Lent) (rd rl m n : List ℕ) (c : Corner) → Answers rd rl (used_depths s) (used_labels s) m (answer.Included c) n → Sound s
+  pub yes_leaves : (s t : Lent) (rd rl m n : List ℕ) (c : Corner) → Answers rd rl (used_depths s) (used_labels s) m (Ok (answer.Included c)) n → Sound s
       → (os : List ℕ) → Outside (used_depths s) (take (length rd) n) os → s.entries + length os ≤ room s.journal
       → (su : List ℕ) → Series s [] (strikes (then_named (length (used_depths s)) os)) t su → Holds t rd rl
   -- and as many undos after them restore the listing
-  pub yes_restores : (s t u : Lent) (rd rl m n : List ℕ) (c : Corner) → Answers rd rl (used_depths s) (used_labels s) m (answer.Included c) n → Sound s
+  pub yes_restores : (s t u : Lent) (rd rl m n : List ℕ) (c : Corner) → Answers rd rl (used_depths s) (used_labels s) m (Ok (answer.Included c)) n → Sound s
       → (os : List ℕ) → Outside (used_depths s) (take (length rd) n) os → s.entries + length os ≤ room s.journal
       → (su sv : List ℕ) → Series s [] (strikes (then_named (length (used_depths s)) os)) t su → Series t su (undos os) u sv → Restored s u
   -- on a no about the used rows, no series of strikes leaves the recipe, with undos among them or without
-  pub no_leaves : (s t : Lent) (rd rl m n : List ℕ) (c : Corner) → Answers rd rl (used_depths s) (used_labels s) m (answer.Absent c) n → Sound s
+  pub no_leaves : (s t : Lent) (rd rl m n : List ℕ) (c : Corner) → Answers rd rl (used_depths s) (used_labels s) m (Ok (answer.Absent c)) n → Sound s
       → (cs : List Call) → OwnUndos s cs → (su : List ℕ) → Series s [] cs t su → Holds t rd rl → ⊥

@@ -1,17 +1,17 @@
 -- Document 01, "Marked examples": E1 to E10 and S1 to S3 as one table, and what an example says of the calls. Assumes nothing.
-use Rattle.std.specs.Prelude.{◌≡◌, List, [], ◌∷◌, ◌++◌, ◌↔◌, ℕ, ◌≤◌, length, drop}
+use Rattle.std.specs.Prelude.{◌≡◌, Ok, List, [], ◌∷◌, ◌++◌, ◌↔◌, ℕ, ◌≤◌, length, drop}
 use Prim.Native.Char.{code}
 use Prim.Native.String as text
-use Rattle.matching.specs.declared.Answer.{Answer}
 use Rattle.matching.specs.declared.Answer.TheVariants.{Included, Absent}
 use Rattle.matching.specs.Answer.{Answers}
-use Rattle.journal.specs.declared.Answer as journal
-use Rattle.journal.specs.declared.Answer.TheVariants.{Done}
 use Rattle.journal.specs.Lent.{Lent, lent}
+use Rattle.journal.specs.Refusals as journal
 use Rattle.journal.specs.Session.{Call, strike_row, undo_last}
 use Rattle.journal.specs.Outcome.{Outcome, Meets, MeetsStrike, MeetsUndo}
 use Rattle.host.specs.Host.{answer_bytes, Entry}
 use Rattle.parcels.specs.Parcel.{parcel_of}
+use Rattle.promises.specs.Calls.{Inclusion}
+use Rattle.matching.specs.declared.Answer.{Answer}
 
 -- an example: the depths and labels of a recipe and of a listing, the answer, the images that it writes, and the line; or what is
 -- lent, a call, its answer, and what it leaves
@@ -36,7 +36,7 @@ input rd rl td tl = parcel_of rd rl ++ parcel_of td tl
 -- the old slots
 abbrev pub IncludeGives : List ℕ → List ℕ → List ℕ → List ℕ → Answer → List ℕ → Type 0
 IncludeGives rd rl td tl a images =
-    (m : List ℕ) → length rd ≤ length m → (r : Answer) (n : List ℕ) → Answers rd rl td tl m r n ↔ ((r ≡ a) × (n ≡ over images m))
+    (m : List ℕ) → length rd ≤ length m → (r : Inclusion) (n : List ℕ) → Answers rd rl td tl m r n ↔ ((r ≡ Ok a) × (n ≡ over images m))
 
 -- an outcome of the C entry, on any buffer large enough, meets its contract just if it is the line xs in front of the old bytes
 abbrev pub EntryGives : List ℕ → List ℕ → Type 0
@@ -62,6 +62,10 @@ included w v = Included (record { width = w; row = v })
 
 abbrev pub absent : ℕ → ℕ → Answer
 absent w v = Absent (record { width = w; row = v })
+
+-- the new counts
+abbrev pub done : ℕ → ℕ → journal.Answer
+done rows entries = Ok (record { rows = rows; entries = entries })
 
 -- 10(30(20)), with room for one entry; and what S1 leaves
 abbrev pub chain : Lent
@@ -94,9 +98,9 @@ examples =
     -- E10: 10(20) in 20
     ∷ asks (0 ∷ 1 ∷ []) (10 ∷ 20 ∷ []) (0 ∷ []) (20 ∷ []) (absent 1 1) [] "absent 1 1\n"
     -- S1: strike row 2 of 10(30(20))
-    ∷ edits chain (strike_row 2) (Done 2 1) shorter
+    ∷ edits chain (strike_row 2) (done 2 1) shorter
     -- S2: strike row 1 instead
-    ∷ edits chain (strike_row 1) (Done 2 1) (lent (0 ∷ 1 ∷ 0 ∷ []) (30 ∷ 20 ∷ 0 ∷ []) 2 (1 ∷ 10 ∷ 0 ∷ 2 ∷ []) 1)
+    ∷ edits chain (strike_row 1) (done 2 1) (lent (0 ∷ 1 ∷ 0 ∷ []) (30 ∷ 20 ∷ 0 ∷ []) 2 (1 ∷ 10 ∷ 0 ∷ 2 ∷ []) 1)
     -- S3: undo after S1
-    ∷ edits shorter undo_last (Done 3 0) chain
+    ∷ edits shorter undo_last (done 3 0) chain
     ∷ []

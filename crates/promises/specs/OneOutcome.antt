@@ -27,6 +27,16 @@ use Rattle.matching.proofs.include.Kinds as include
 use Rattle.matching.proofs.include.Reads as include-contract
 use Rattle.matching.proofs.judge.Kinds as judge
 use Rattle.matching.proofs.judge.Reads as judge-contract
+use Rattle.matching.specs.Refusals.{refusal_number, refusal_place}
+use Rattle.matching.proofs.Refusal.number.Kinds as matching_number
+use Rattle.matching.proofs.Refusal.number.Reads as matching-number-contract
+use Rattle.matching.proofs.Refusal.place.Kinds as matching_place
+use Rattle.matching.proofs.Refusal.place.Reads as matching-place-contract
+use Rattle.parcels.specs.Refusals.{number_of, place_of}
+use Rattle.parcels.proofs.Refusal.number.Kinds as parcels_number
+use Rattle.parcels.proofs.Refusal.number.Reads as parcels-number-contract
+use Rattle.parcels.proofs.Refusal.place.Kinds as parcels_place
+use Rattle.parcels.proofs.Refusal.place.Reads as parcels-place-contract
 use Rattle.parcels.proofs.read.Kinds as read
 use Rattle.parcels.proofs.read.Reads as read-contract
 use Rattle.parcels.proofs.write.Kinds as write
@@ -34,10 +44,10 @@ use Rattle.parcels.proofs.write.Reads as write-contract
 use Rattle.journal.specs.Lent.{lent}
 use Rattle.journal.specs.Refusals as journal
 use Rattle.journal.specs.Outcome.{MeetsStrike, MeetsUndo}
-use Rattle.journal.proofs.number_of.Kinds as number_of
-use Rattle.journal.proofs.number_of.Reads as number-of-contract
-use Rattle.journal.proofs.place_of.Kinds as place_of
-use Rattle.journal.proofs.place_of.Reads as place-of-contract
+use Rattle.journal.proofs.Refusal.number.Kinds as journal_number
+use Rattle.journal.proofs.Refusal.number.Reads as journal-number-contract
+use Rattle.journal.proofs.Refusal.place.Kinds as journal_place
+use Rattle.journal.proofs.Refusal.place.Reads as journal-place-contract
 use Rattle.journal.proofs.strike.Kinds as strike
 use Rattle.journal.proofs.strike.Reads as strike-contract
 use Rattle.journal.proofs.undo.Kinds as undo
@@ -87,10 +97,20 @@ pub record OneOutcome : Type 0 where
       (λ κs end. end.1.1.1.0.now ∷ end.1.1.1.1.0.now ∷ [])
   pub write : PublicCall write.ps write.r write-contract.Pre write-contract.Post
       (λ κs a x end. Writes a.0.now a.1.0.now a.1.1.0.now x end.1.1.0.now) (λ κs end. end.1.1.0.now ∷ [])
-  -- journal: the number and place of a refusal
-  pub number_of : PublicCall number_of.ps number_of.r number-of-contract.Pre number-of-contract.Post (λ κs a x end. x ≡ journal.number a.0) (λ κs end. [])
-  pub place_of : PublicCall place_of.ps place_of.r place-of-contract.Pre place-of-contract.Post (λ κs a x end. x ≡ journal.place a.0) (λ κs end. [])
-  -- lent to be written: the table's depths and labels, and the journal
+  -- the number and the place of a refusal of each of the three
+  pub matching_number : PublicCall matching_number.ps matching_number.r matching-number-contract.Pre matching-number-contract.Post
+      (λ κs a x end. x ≡ refusal_number a.0) (λ κs end. [])
+  pub matching_place : PublicCall matching_place.ps matching_place.r matching-place-contract.Pre matching-place-contract.Post
+      (λ κs a x end. x ≡ refusal_place a.0) (λ κs end. [])
+  pub parcels_number : PublicCall parcels_number.ps parcels_number.r parcels-number-contract.Pre parcels-number-contract.Post
+      (λ κs a x end. x ≡ number_of a.0) (λ κs end. [])
+  pub parcels_place : PublicCall parcels_place.ps parcels_place.r parcels-place-contract.Pre parcels-place-contract.Post
+      (λ κs a x end. x ≡ place_of a.0) (λ κs end. [])
+  pub number_of : PublicCall journal_number.ps journal_number.r journal-number-contract.Pre journal-number-contract.Post
+      (λ κs a x end. x ≡ journal.number a.0) (λ κs end. [])
+  pub place_of : PublicCall journal_place.ps journal_place.r journal-place-contract.Pre journal-place-contract.Post
+      (λ κs a x end. x ≡ journal.place a.0) (λ κs end. [])
+  -- journal, lent to be written: the table's depths and labels, and the journal
   pub strike : PublicCall strike.ps strike.r strike-contract.Pre strike-contract.Post
       (λ κs a x end.
       MeetsStrike (lent a.0.now a.1.0.now a.1.1.0 a.1.1.1.0.now a.1.1.1.1.0) a.1.1.1.1.1.0

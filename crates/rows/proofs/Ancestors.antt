@@ -7,11 +7,12 @@ use native.Mathlib.Omega.{arith}
 use native.Mathlib.Decide.{dec_lt, dec_le}
 use lib.Dec.{leb, ltb}
 use lib.ListN.{length}
-use borrow.Author.Tests.{ltb-true, leb-true, lt-ltb, le-leb}
+use Rattle.std.proofs.lemmas.Bool.{false_from_ne_true}
+use Rattle.std.proofs.lemmas.Bool.Decides.{nat_tests}
 use Rattle.rows.specs.Rows.{Row, depth, Outline, last_row, is_ancestor, tally, ancestors}
 use Rattle.rows.proofs.Depths.{after_shallow, inside_deeper}
 use Rattle.rows.proofs.Order.{window}
-use Rattle.rows.proofs.Tests.{both_true, same_test, ancestor_test, tally_true, tally_false, tally_same, tally_none}
+use Rattle.rows.proofs.Tests.{same_test, ancestor_test, tally_true, tally_false, tally_same, tally_none}
 
 module _ (ds : List ℕ) (k : Outline ds) where
   -- row u up to v has v in its tree and is shallower than e
@@ -19,17 +20,13 @@ module _ (ds : List ℕ) (k : Outline ds) where
   over v e u = leb v (last_row ds u) && ltb (depth ds u) e
 
   over_of : (v e u : ℕ) → over v e u ≡ true → (v ≤ last_row ds u) × (depth ds u < e)
-  over_of v e u t = let b = (both_true (leb v (last_row ds u)) (ltb (depth ds u) e)).0 t in (leb-true _ _ b.0, ltb-true _ _ b.1)
+  over_of v e u t = grind (arith, nat_tests)
 
   over_to : (v e u : ℕ) → v ≤ last_row ds u → depth ds u < e → over v e u ≡ true
-  over_to v e u a b = (both_true (leb v (last_row ds u)) (ltb (depth ds u) e)).1 (le-leb _ _ a, lt-ltb _ _ b)
+  over_to v e u a b = grind (arith, nat_tests)
 
   over_not : (v e u : ℕ) → e ≤ depth ds u → over v e u ≡ false
-  over_not v e u h = go (over v e u) refl
-    where
-      go : (b : Bool) → over v e u ≡ b → b ≡ false
-      go true t = absurd (omega (arith, over_of v e u t))
-      go false t = refl
+  over_not v e u h = false_from_ne_true (over v e u) (λ t. omega (arith, over_of v e u t))
 
   -- the rows over the next row are those over this one that are shallower than the next
   over_next : (w e : ℕ) → Row ds (suc w) → (c : ℕ) → ((x : ℕ) → x < c → (x < e) × (x < depth ds (suc w))) → ((x : ℕ) → x < e → x < depth ds (suc w) → x < c)
@@ -82,11 +79,7 @@ module _ (ds : List ℕ) (k : Outline ds) where
       ∙ path v (depth ds v) r.1 (λ o. omega arith) (λ o. absurd (omega arith))
     where
       later : (u : ℕ) → v < u → is_ancestor ds u v ≡ false
-      later u o = go (is_ancestor ds u v) refl
-        where
-          go : (b : Bool) → is_ancestor ds u v ≡ b → b ≡ false
-          go true t = absurd (omega (arith, (ancestor_test ds u v).0 t))
-          go false t = refl
+      later u o = false_from_ne_true (is_ancestor ds u v) (λ t. omega (arith, (ancestor_test ds u v).0 t))
 
       here : (u : ℕ) → 1 ≤ u → u ≤ v → is_ancestor ds u v ≡ over v (depth ds v) u
       here u a b =

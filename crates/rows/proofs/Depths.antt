@@ -1,34 +1,17 @@
 -- What the depths of a table say of its rows' descendants. Assumes nothing.
-use mathlib.Core.Path.{◌≡◌, ap}
-use mathlib.Core.List.{List, [], ◌∷◌}
+use mathlib.Core.Path.{◌≡◌}
+use mathlib.Core.List.{List}
 use Prim.Native.Nat.{ℕ, zero, suc, ◌+◌, ◌-◌, ◌≤◌, ◌<◌}
 use native.Mathlib.Omega.{arith}
-use native.Mathlib.Decide.{dec_lt, dec_le}
+use native.Mathlib.Decide.{dec_lt}
+use native.Mathlib.Nat.{lt_of_not-le, le_of_suc-le-suc}
 use lib.ListN.{length, get_or, drop}
 use lib.Seq.{get_or-drop}
-use Rattle.rows.specs.Rows.{Row, depth, Outline, deeper, descendants, last_row}
-use Rattle.rows.proofs.Deeper.{deeper_lt, deeper_ge}
+use Rattle.rows.specs.Rows.{Row, depth, Outline, descendants, last_row}
+use Rattle.rows.proofs.Deeper.{deeper_run, deeper_stop}
 use Rattle.rows.proofs.DescendantLaws.{descendants_within}
 
--- each row of a run of deeper rows is deeper, and the row behind it is not
-deeper_run : (d : ℕ) (es : List ℕ) (n : ℕ) → n < deeper d es → d < get_or es n 0
-deeper_run d [] n h = absurd (omega arith)
-deeper_run d (e ∷ es) n h = go n h (dec_lt d e) (deeper_run d es)
-  where
-    go : (n : ℕ) → n < deeper d (e ∷ es) → Dec (d < e) → ((m : ℕ) → m < deeper d es → d < get_or es m 0) → d < get_or (e ∷ es) n 0
-    go zero h (yes u) ih = u
-    go (suc n) h (yes u) ih = ih n (omega (arith, deeper_lt d e es u))
-    go n h (no u) ih = absurd (omega (arith, deeper_ge d e es (omega arith)))
-
-deeper_stop : (d : ℕ) (es : List ℕ) → get_or es (deeper d es) 0 ≤ d
-deeper_stop d [] = omega arith
-deeper_stop d (e ∷ es) = go (dec_lt d e) (deeper_stop d es)
-  where
-    go : Dec (d < e) → get_or es (deeper d es) 0 ≤ d → get_or (e ∷ es) (deeper d (e ∷ es)) 0 ≤ d
-    go (yes h) ih = rw (deeper_lt d e es h) ih
-    go (no h) ih = rw (deeper_ge d e es (omega arith)) (omega arith)
-
--- the same of the rows of a table
+-- the rows of a tree are in the table and deeper than its root, and the row behind it is not
 pub last_fits : (ds : List ℕ) (v : ℕ) → Row ds v → last_row ds v ≤ length ds
 last_fits ds v h = omega (arith, descendants_within ds v)
 
@@ -45,23 +28,18 @@ after_shallow ds (suc i) h = rw (get_or-drop (suc i) ds (descendants ds (suc i))
 
 -- a row up to which all rows after v are deeper than v is in the tree at v
 pub deeper_inside : (ds : List ℕ) (v w : ℕ) → Row ds v → v ≤ w → w ≤ length ds → ((x : ℕ) → v < x → x ≤ w → depth ds v < depth ds x) → w ≤ last_row ds v
-deeper_inside ds v w r o h all = go (dec_le w (last_row ds v))
-  where
-    go : Dec (w ≤ last_row ds v) → w ≤ last_row ds v
-    go (yes u) = u
-    go (no u) = absurd (omega (arith, after_shallow ds v r, all (suc (last_row ds v)) (omega arith) (omega arith)))
+deeper_inside ds v w r o h all = le_of_suc-le-suc (lt_of_not-le (λ u. omega (arith, after_shallow ds v r, all (suc (last_row ds v)) (omega arith) u)))
 
 -- a tree within a tree ends no later
 pub inside_ends : (ds : List ℕ) (v w : ℕ) → Row ds v → v ≤ w → w ≤ last_row ds v → last_row ds w ≤ last_row ds v
-inside_ends ds v w r o h = go (dec_lt v w) (dec_le (last_row ds w) (last_row ds v))
+inside_ends ds v w r o h = go (dec_lt v w)
   where
-    go : Dec (v < w) → Dec (last_row ds w ≤ last_row ds v) → last_row ds w ≤ last_row ds v
-    go d (yes u) = u
-    go (no i) (no u) = let e : v ≡ w = omega arith in absurd (omega (arith, ap (last_row ds) e))
-    go (yes i) (no u) =
-        absurd
-        (omega
-        (arith, after_shallow ds v r, inside_deeper ds v w r.0 i h, inside_deeper ds w (suc (last_row ds v)) (omega arith) (omega arith) (omega arith)))
+    go : Dec (v < w) → last_row ds w ≤ last_row ds v
+    go (no i) = let e : w ≡ v = omega arith in rw e (omega arith)
+    go (yes i) =
+        le_of_suc-le-suc
+        (lt_of_not-le
+        (λ u. omega (arith, after_shallow ds v r, inside_deeper ds v w r.0 i h, inside_deeper ds w (suc (last_row ds v)) (omega arith) (omega arith) u)))
 
 -- depths fall as they like and rise by one a row
 module _ (ds : List ℕ) (k : Outline ds) where

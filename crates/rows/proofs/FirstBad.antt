@@ -9,8 +9,9 @@ use native.Mathlib.Omega.{arith}
 use native.Mathlib.Decide.{dec_le, dec_lt}
 use lib.ListN.{length, take, drop}
 use lib.Seq.{length-take-le, get_or-take}
-use Rattle.rows.specs.declared.RowCheck.{RowCheck}
-use Rattle.rows.specs.declared.RowCheck.TheVariants.{Fine, BadStep, TooDeep}
+use Rattle.std.specs.Prelude.{Result, Ok, Err}
+use Rattle.rows.specs.declared.BadRow.{BadRow}
+use Rattle.rows.specs.declared.BadRow.TheVariants.{Step, TooDeep}
 use Rattle.rows.specs.Limits.{deepest}
 use Rattle.rows.specs.Rows.{depth, Row, WellFormed}
 use Rattle.rows.specs.FirstBad.{check_from, first_bad, most_at, BadStepAt, TooDeepAt, Says}
@@ -26,7 +27,7 @@ GoodTo ds n = (v : ℕ) → 1 ≤ v → v ≤ n → Good ds v
 
 -- a finding that is true of the table
 abbrev Finding : List ℕ → Type 0
-Finding ds = (r : RowCheck) × Says ds r
+Finding ds = (r : Result (Unit {0}) BadRow) × Says ds r
 
 -- well-formed: all rows are good
 good_of : (ds : List ℕ) → WellFormed ds → GoodTo ds (length ds)
@@ -78,12 +79,12 @@ module _ (ds : List ℕ) where
   check_before n h w = let e : suc n - 1 ≡ n = omega arith in check_to n (omega arith) ((good_take ds n (omega arith)).0 (rw e at w))
 
   -- what is true of the table is found
-  found : (r : RowCheck) → Says ds r → first_bad ds ≡ r
-  found Fine w = check_to (length ds) (omega arith) (good_of ds w) ∙ check_end ds (length ds) _ (omega arith)
-  found (BadStep zero) b = absurd (not-suc-le-zero b.row.0)
-  found (BadStep (suc n)) b = check_before n b.row.1 b.before ∙ check_step ds n _ b.row.1 b.step
-  found (TooDeep zero) b = absurd (not-suc-le-zero b.row.0)
-  found (TooDeep (suc n)) b = check_before n b.row.1 b.before ∙ check_deep ds n _ b.row.1 b.step b.deep
+  found : (r : Result (Unit {0}) BadRow) → Says ds r → first_bad ds ≡ r
+  found (Ok x) w = check_to (length ds) (omega arith) (good_of ds w) ∙ check_end ds (length ds) _ (omega arith)
+  found (Err (Step zero)) b = absurd (not-suc-le-zero b.row.0)
+  found (Err (Step (suc n))) b = check_before n b.row.1 b.before ∙ check_step ds n _ b.row.1 b.step
+  found (Err (TooDeep zero)) b = absurd (not-suc-le-zero b.row.0)
+  found (Err (TooDeep (suc n))) b = check_before n b.row.1 b.before ∙ check_deep ds n _ b.row.1 b.step b.deep
 
   -- one more good row
   more : (n : ℕ) → GoodTo ds n → Good ds (suc n) → GoodTo ds (suc n)
@@ -107,7 +108,7 @@ module _ (ds : List ℕ) where
 
   -- some finding is true of the table: look at the k rows after n good ones
   look : (k n : ℕ) → n + k ≡ length ds → GoodTo ds n → Finding ds
-  look zero n e g = (Fine, of_good ds (λ v p q. g v p (omega arith)))
+  look zero n e g = (Ok tt, of_good ds (λ v p q. g v p (omega arith)))
   look (suc k) n e g = go (dec_lt (most_at ds (suc n)) (depth ds (suc n))) (dec_lt deepest (depth ds (suc n))) (look k (suc n) (omega arith))
     where
       row : Row ds (suc n)
@@ -117,24 +118,24 @@ module _ (ds : List ℕ) where
       before = let z : suc n - 1 ≡ n = omega arith in rw z ((good_take ds n (omega arith)).1 g)
 
       go : Dec (most_at ds (suc n) < depth ds (suc n)) → Dec (deepest < depth ds (suc n)) → (GoodTo ds (suc n) → Finding ds) → Finding ds
-      go (yes p) d next = (BadStep (suc n), record { row = row; before = before; step = p })
-      go (no p) (yes q) next = (TooDeep (suc n), record { row = row; before = before; step = omega arith; deep = q })
+      go (yes p) d next = (Err (Step (suc n)), record { row = row; before = before; step = p })
+      go (no p) (yes q) next = (Err (TooDeep (suc n)), record { row = row; before = before; step = omega arith; deep = q })
       go (no p) (no q) next = next (more n g (omega arith, omega arith))
 
   -- a finding is given exactly where it is true of the table
-  pub first_bad_iff : (r : RowCheck) → (first_bad ds ≡ r) ↔ Says ds r
+  pub first_bad_iff : (r : Result (Unit {0}) BadRow) → (first_bad ds ≡ r) ↔ Says ds r
   first_bad_iff r =
       let t = look (length ds) 0 (omega arith) (λ v p q. omega arith) in
       (λ e. subst (Says ds) (sym (found t.0 t.1) ∙ e) t.1, found r)
 
   -- the table is well-formed
-  pub fine_iff : (first_bad ds ≡ Fine) ↔ WellFormed ds
-  fine_iff = first_bad_iff Fine
+  pub fine_iff : (first_bad ds ≡ Ok tt) ↔ WellFormed ds
+  fine_iff = first_bad_iff (Ok tt)
 
   -- v is the first bad row, for its step
-  pub bad_step_iff : (v : ℕ) → (first_bad ds ≡ BadStep v) ↔ BadStepAt ds v
-  bad_step_iff v = first_bad_iff (BadStep v)
+  pub bad_step_iff : (v : ℕ) → (first_bad ds ≡ Err (Step v)) ↔ BadStepAt ds v
+  bad_step_iff v = first_bad_iff (Err (Step v))
 
   -- v is the first bad row, for its depth
-  pub too_deep_iff : (v : ℕ) → (first_bad ds ≡ TooDeep v) ↔ TooDeepAt ds v
-  too_deep_iff v = first_bad_iff (TooDeep v)
+  pub too_deep_iff : (v : ℕ) → (first_bad ds ≡ Err (TooDeep v)) ↔ TooDeepAt ds v
+  too_deep_iff v = first_bad_iff (Err (TooDeep v))

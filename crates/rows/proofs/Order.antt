@@ -5,6 +5,7 @@ use mathlib.Core.List.{List}
 use mathlib.Core.HLevel.{×₃_prop}
 use Prim.Native.Nat.{ℕ, suc, ◌+◌, ◌-◌, ◌≤◌, ◌<◌}
 use native.Mathlib.Bridge.{le_prop}
+use native.Mathlib.Nat.{lt_of_not-le, le_of_suc-le-suc}
 use native.Mathlib.Omega.{arith}
 use native.Mathlib.Decide.{dec_lt, dec_le}
 use lib.ListN.{length}
@@ -50,19 +51,14 @@ module _ (ds : List ℕ) (k : Outline ds) where
 
   -- a subtree is a window of rows: u is an ancestor of just the rows after it up to the last row of its tree
   pub window : (u w : ℕ) → Row ds u → Row ds w → Ancestor ds u w ↔ ((u < w) × (w ≤ last_row ds u))
-  window u w r s = (λ a. (a.1, go a (dec_le w (last_row ds u))), λ a. (r.0, a.0, inside_closes u w r a.0 s.1 a.1))
-    where
-      go : Ancestor ds u w → Dec (w ≤ last_row ds u) → w ≤ last_row ds u
-      go a (yes h) = h
-      go a (no h) = absurd (omega (arith, beyond_closes u w r s.1 (omega arith)))
+  window u w r s = (
+    λ a. (a.1, le_of_suc-le-suc (lt_of_not-le (λ h. omega (arith, beyond_closes u w r s.1 h)))),
+    λ a. (r.0, a.0, inside_closes u w r a.0 s.1 a.1),
+  )
 
   -- and u is left of just the rows behind its tree
   pub behind_window : (u w : ℕ) → Row ds u → Row ds w → LeftOf ds u w ↔ (last_row ds u < w)
-  behind_window u w r s = (λ a. go a (dec_lt (last_row ds u) w), λ a. (r.0, omega arith, beyond_closes u w r s.1 a))
-    where
-      go : LeftOf ds u w → Dec (last_row ds u < w) → last_row ds u < w
-      go a (yes h) = h
-      go a (no h) = absurd (omega (arith, inside_closes u w r a.1 s.1 (omega arith)))
+  behind_window u w r s = (λ a. lt_of_not-le (λ h. omega (arith, inside_closes u w r a.1 s.1 h)), λ a. (r.0, omega arith, beyond_closes u w r s.1 a))
 
   -- a later row is in the tree of an earlier one or behind it
   pub data Later (u w : ℕ) : Type 0 where

@@ -6,12 +6,12 @@ use mathlib.Core.List.{List}
 use Prim.Native.Nat.{ℕ, zero, suc, ◌+◌, ◌≤◌, ◌<◌}
 use native.Mathlib.Omega.{arith}
 use lib.Dec.{leb, ltb}
-use borrow.Author.Tests.{ltb-true, leb-true, lt-ltb, le-leb}
+use Rattle.std.proofs.lemmas.Bool.{and_parts, and_from}
+use Rattle.std.proofs.lemmas.Bool.Decides.{nat_tests}
 use Rattle.rows.specs.Rows.{closing, Ancestor, LeftOf, is_ancestor, is_left_of, counted, tally}
 
 pub both_true : (p q : Bool) → ((p && q) ≡ true) ↔ ((p ≡ true) × (q ≡ true))
-both_true true q = (λ e. (refl, e), λ e. e.1)
-both_true false q = (λ e. (e, cc), λ e. e.0)
+both_true p q = (and_parts p q, λ e. and_from p q e.0 e.1)
 
 pub same_test : (p q : Bool) → (p ≡ true → q ≡ true) → (q ≡ true → p ≡ true) → p ≡ q
 same_test true true f g = refl
@@ -20,13 +20,7 @@ same_test false true f g = g refl
 same_test false false f g = refl
 
 order_test : (u w x y : ℕ) → ((leb 1 u && (ltb u w && ltb x y)) ≡ true) ↔ ((1 ≤ u) × (u < w) × (x < y))
-order_test u w x y = (
-  λ e.
-      let a = (both_true (leb 1 u) (ltb u w && ltb x y)).0 e in
-      let b = (both_true (ltb u w) (ltb x y)).0 a.1 in
-      (leb-true 1 u a.0, ltb-true u w b.0, ltb-true x y b.1),
-  λ a. (both_true (leb 1 u) (ltb u w && ltb x y)).1 (le-leb 1 u a.0, (both_true (ltb u w) (ltb x y)).1 (lt-ltb u w a.1, lt-ltb x y a.2)),
-)
+order_test u w x y = (λ e. grind (arith, nat_tests), λ a. grind (arith, nat_tests))
 
 pub ancestor_test : (ds : List ℕ) (u w : ℕ) → (is_ancestor ds u w ≡ true) ↔ Ancestor ds u w
 ancestor_test ds u w = order_test u w (closing ds w) (closing ds u)

@@ -2,6 +2,7 @@
 use mathlib.Core.Path.{◌≡◌, refl, sym, ap, ap₂, ◌∙◌}
 use mathlib.Core.List.{List, [], ◌∷◌}
 use Prim.Native.Nat.{ℕ, zero, suc, ◌+◌, ◌-◌, ◌≤◌, ◌<◌}
+use native.Mathlib.Nat.{lt_of_not-le}
 use native.Mathlib.Omega.{arith}
 use native.Mathlib.Decide.{dec_lt, dec_le}
 use lib.ListN.{length, get_or, drop, drop_of_length-le}
@@ -71,15 +72,11 @@ pub record Window (ds : List ℕ) (z d : ℕ) (f : Forest ℕ) : Type 0 where
 module _ (ds : List ℕ) (k : Outline ds) where
   -- the window of the rows below row v is as long as v has descendants
   below_size : (v d : ℕ) (f : Forest ℕ) → Row ds v → depth ds v ≡ d → Window ds v (suc d) f → descendants ds v ≡ size f
-  below_size v d f r e w = go (dec_le (last_row ds v) (v + size f))
-    where
-      most : v + size f ≤ last_row ds v
-      most = deeper_inside ds v (v + size f) r (omega arith) w.fits (λ x a b. omega (arith, w.rows x a b))
-
-      go : Dec (last_row ds v ≤ v + size f) → descendants ds v ≡ size f
-      go (yes u) = omega (arith, most)
-      go (no u) =
-          absurd (omega (arith, w.ends (omega (arith, last_fits ds v r)), inside_deeper ds v (suc (v + size f)) r.0 (omega arith) (omega arith)))
+  below_size v d f r e w =
+      let most = deeper_inside ds v (v + size f) r (omega arith) w.fits (λ x a b. omega (arith, w.rows x a b)) in
+      let least : last_row ds v < suc (v + size f) =
+      lt_of_not-le (λ u. omega (arith, w.ends (omega (arith, last_fits ds v r)), inside_deeper ds v (suc (v + size f)) r.0 (omega arith) u)) in
+      omega arith
 
   window_cons : (z d : ℕ) (f g : Forest ℕ) → z < length ds → depth ds (suc z) ≡ d → Window ds (suc z) (suc d) f → Window ds (last_row ds (suc z)) d g
       → Window ds z d (cons (suc z) f g)
@@ -145,8 +142,6 @@ module _ (ds : List ℕ) (k : Outline ds) where
   stands_forest = window_whole.stands
 
   pub size_forest : size (forest ds) ≡ length ds
-  size_forest = go (dec_lt (0 + size (forest ds)) (length ds))
-    where
-      go : Dec (0 + size (forest ds) < length ds) → size (forest ds) ≡ length ds
-      go (yes h) = absurd (omega (arith, window_whole.ends h))
-      go (no h) = omega (arith, window_whole.fits)
+  size_forest =
+      let least : length ds < suc (size (forest ds)) = lt_of_not-le (λ h. omega (arith, window_whole.ends (omega arith))) in
+      omega (arith, window_whole.fits)

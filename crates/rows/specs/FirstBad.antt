@@ -1,18 +1,18 @@
 -- The first bad row of a table: what the refusals 4, 5, 8, 9 and 23 look for. Assumes nothing.
-use Rattle.std.specs.Prelude.{true, false, List, [], ◌∷◌, ℕ, zero, suc, ◌-◌, ◌≤◌, ◌<◌, ltb, take}
+use Rattle.std.specs.Prelude.{true, false, List, [], ◌∷◌, ℕ, zero, suc, ◌-◌, ◌≤◌, ◌<◌, ltb, take, Result, Ok, Err}
 use Rattle.rows.specs.Limits.{deepest}
 use Rattle.rows.specs.Rows.{depth, Row, WellFormed}
-use Rattle.rows.specs.declared.RowCheck.{RowCheck}
-use Rattle.rows.specs.declared.RowCheck.TheVariants.{Fine, BadStep, TooDeep}
+use Rattle.rows.specs.declared.BadRow.{BadRow}
+use Rattle.rows.specs.declared.BadRow.TheVariants.{Step, TooDeep}
 
 -- the check of ds, the rows from number v on, of which the first may be as deep as most: row by row, the step before the depth
-unfoldable pub check_from : ℕ → ℕ → List ℕ → RowCheck
-check_from v most [] = Fine
+unfoldable pub check_from : ℕ → ℕ → List ℕ → Result (Unit {0}) BadRow
+check_from v most [] = Ok tt
 check_from v most (d ∷ ds) =
-    elim (ltb most d) [ true ↦ BadStep v | false ↦ elim (ltb deepest d) [ true ↦ TooDeep v | false ↦ check_from (suc v) (suc d) ds ] ]
+    elim (ltb most d) [ true ↦ Err (Step v) | false ↦ elim (ltb deepest d) [ true ↦ Err (TooDeep v) | false ↦ check_from (suc v) (suc d) ds ] ]
 
 -- row 1 has depth 0
-abbrev pub first_bad : List ℕ → RowCheck
+abbrev pub first_bad : List ℕ → Result (Unit {0}) BadRow
 first_bad ds = check_from 1 0 ds
 
 -- the most that row v's depth may be: 0 for row 1, one more than the depth before it for a later row
@@ -35,7 +35,7 @@ pub record TooDeepAt (ds : List ℕ) (v : ℕ) : Type 0 where
   pub deep : deepest < depth ds v
 
 -- what each finding says of the table
-abbrev pub Says : List ℕ → RowCheck → Type 0
-Says ds Fine = WellFormed ds
-Says ds (BadStep v) = BadStepAt ds v
-Says ds (TooDeep v) = TooDeepAt ds v
+abbrev pub Says : List ℕ → Result (Unit {0}) BadRow → Type 0
+Says ds (Ok x) = WellFormed ds
+Says ds (Err (Step v)) = BadStepAt ds v
+Says ds (Err (TooDeep v)) = TooDeepAt ds v

@@ -1,20 +1,13 @@
--- `read` meets its contract: the three judgements, one after another, make the answer, and its rows can be filled in. Assumes nothing.
-use Rattle.std.proofs.Common.{◌≡◌, arith}
-use Rattle.parcels.specs.Read.{read_of}
-use Rattle.parcels.proofs.Accepting.{claims, most_small, fillable}
+-- `read` meets its contract: what is claimed lies within the limit and the input. Assumes nothing.
+use Rattle.std.proofs.Common.{◌≤◌, Ok, arith}
+use Rattle.rows.specs.Limits.{listing_rows}
+use Rattle.parcels.specs.Read.{Claim}
+use Rattle.parcels.proofs.Accepting.{claims, most_small}
 use Rattle.parcels.proofs.read.Goals as goal
 
-pub claim-claimed-requires : goal.claim-claimed-requires
-claim-claimed-requires c = omega (arith, c.most_rows.ensures, most_small c.args.limit)
-
-pub agree-agreed-requires : goal.agree-agreed-requires
-agree-agreed-requires c = rw c.claim-claimed.ensures
-    (claims c.args.bytes.now c.args.start c.most_rows.result (omega (arith, c.most_rows.ensures, most_small c.args.limit)))
-
-pub fill-requires : goal.fill-requires
-fill-requires c =
-    let judged : c.room-answer.result ≡ read_of c.args.bytes.now c.args.start c.args.limit c.args.depths.now c.args.labels.now = cc in
-    rw judged (fillable c.args.bytes.now c.args.start c.args.limit c.args.depths.now c.args.labels.now)
-
-pub returns-clause-answer : goal.returns-clause-answer
-returns-clause-answer c = cc
+pub invariant_of-parcel : goal.invariant_of-parcel
+invariant_of-parcel c =
+    let small : c.most_rows.result ≤ listing_rows = omega (arith, c.most_rows.ensures, most_small c.args.limit) in
+    let h = claims c.args.bytes.now c.args.start c.most_rows.result small in
+    let k : Claim c.args.bytes.now c.args.start (Ok c.in_ok-claimed.claimed) = rw (← c.in_ok-claimed.ensures) at h in
+    record { few = k.0; within = k.1 }

@@ -1,26 +1,27 @@
-use borrow.Author.Rules.{rules}
-use Prim.Native.Nat.{◌-◌}
+-- `rows::descendants_of` meets its contract: the chain counts the run of deeper rows behind the row. Assumes nothing.
+use mathlib.Core.Path.{◌≡◌, sym, ◌∙◌}
 use native.Mathlib.Omega.{arith}
-use native.Mathlib.Numerals.{add-one}
-use lib.ListN.{get_or}
-use Rattle.rows.proofs.DescendantLaws.{descendants_row, descendants_within, count_on, count_stop, count_end}
+use Prim.Native.Nat.{◌-◌}
+use lib.Dec.{ltb}
+use lib.ListN.{length, get_or, drop, take, length-drop}
+use lib.Seq.{take-length}
+use borrow.Author.Rules.{rules}
+use Rattle.std.proofs.Common.{tests}
+use Rattle.std.proofs.lemmas.Iterator.{YieldsList-from_slice}
+use Rattle.std.proofs.lemmas.Iterator.Consumers.{count_from_yields_List}
+use Rattle.std.proofs.lemmas.Iterator.Search.{YieldsList-from_take_while}
+use Rattle.std.proofs.lemmas.List.Folds.{length-prefix_len}
+use Rattle.rows.proofs.Deeper.{deeper_is}
+use Rattle.rows.proofs.DescendantLaws.{descendants_row}
 use Rattle.rows.proofs.descendants_of.Goals as goal
 
-pub returns-then-v-eq0 : goal.returns-then-v-eq0
-returns-then-v-eq0 c = rw c.if-v-eq0.true
-
-pub returns-then-depths-v : goal.returns-then-depths-v
-returns-then-depths-v c = omega (arith, descendants_within c.args.depths.now c.args.row.0)
-
-pub loop-i-init : goal.loop-i-init
-loop-i-init c = (search rules, search rules, omega (arith, descendants_row c.args.depths.now c.args.row.0 (omega arith)))
-
-pub returns-then-depths-i : goal.returns-then-depths-i
-returns-then-depths-i c = omega (arith, count_stop c.args.depths.now _ _ c.loop-i-test.true c.if-depths-i.true)
-
-pub loop-i-preserved : goal.loop-i-preserved
-loop-i-preserved c = let counted = count_on c.args.depths.now _ _ c.loop-i-test.true c.if-depths-i.false in
-    (search rules, search rules, simp add-one (omega arith))
-
 pub returns : goal.returns
-returns c = omega (arith, count_end c.args.depths.now (get_or c.args.depths.now (c.args.row.0 - 1) 0) _ c.loop-i-test.false)
+returns c = let ds = c.args.depths.now in
+    let v = c.args.row.0 in
+    let top = get_or ds (v - 1) 0 in
+    let behind : take (length ds - v) (drop v ds) ≡ drop v ds = rw (← length-drop v ds) (take-length (drop v ds)) in
+    count_from_yields_List c.take_while.result _ c.count.ensures.ran
+    (YieldsList-from_take_while _ (ltb top) (YieldsList-from_slice (drop v ds) (cc)) c.take_while.ensures.closure c.take_while.ensures.done
+    (λ x b q k. search (rules, tests)))
+    ∙ length-prefix_len (ltb top) (drop v ds)
+    ∙ sym (descendants_row ds v (omega arith) ∙ deeper_is top (drop v ds))

@@ -1,4 +1,3 @@
-use borrow.Author.Rules.{rules}
 use mathlib.Core.Path.{sym}
 use native.Mathlib.Numerals.{add-one}
 use native.Mathlib.Omega.{arith}
@@ -16,8 +15,7 @@ pub returns-then-d-gt-DEEPEST : goal.returns-then-d-gt-DEEPEST
 returns-then-d-gt-DEEPEST c = rw add-one (cc (check_deep c.args.depths.now _ _ c.loop-i-test.true c.if-most-d.false (omega arith)))
 
 pub loop-i-preserved : goal.loop-i-preserved
-loop-i-preserved c = let good = check_good c.args.depths.now _ _ c.loop-i-test.true c.if-most-d.false (omega arith) in
-    (search rules, simp add-one (cc))
+loop-i-preserved c = let good = check_good c.args.depths.now _ _ c.loop-i-test.true c.if-most-d.false (omega arith) in simp add-one (cc)
 
 pub returns : goal.returns
 returns c = cc (check_end c.args.depths.now _ _ c.loop-i-test.false)

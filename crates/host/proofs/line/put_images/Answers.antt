@@ -1,32 +1,17 @@
--- Of the images left, the first goes behind those before it; at the end none is left.
-use Prim.Native.Nat.{◌+◌}
+-- The images before this one and then this one are the images up to it, for which there is room.
 use native.Mathlib.Omega.{arith}
-use lib.ListN.{length}
-use lib.Seq.{sets}
 use Rattle.host.specs.Line.{spaced}
-use Rattle.host.proofs.Putting.{number_fits, number_turn, number_stop}
+use Rattle.host.proofs.Putting.{put_none, put_then, put_room, spaced_more, spaced_fits}
 use Rattle.host.proofs.line.put_images.Goals as goal
 
-pub put_number-next-requires : goal.put_number-next-requires
-put_number-next-requires c =
-    let a = c.args in
-    let xs = spaced a.images.now in
-    let fits = number_fits a.images.now a.at (a.at + length xs) (sets a.answer.now a.at xs) c.loop-i.answer c.loop-i.next c.loop-i.i (omega arith) c.loop-i.invariant.3 in
-    omega arith
+pub loop-image-init : goal.loop-image-init
+unfolding spaced
+loop-image-init c = put_none c.args.answer.now
 
-pub loop-i-preserved : goal.loop-i-preserved
-loop-i-preserved c =
-    let a = c.args in
-    let xs = spaced a.images.now in
-    let put = c.put_number-next in
-    let left =
-    number_turn a.images.now a.at (a.at + length xs) (sets a.answer.now a.at xs) c.loop-i.answer put.new.answer c.loop-i.next put.result c.loop-i.i (omega arith)
-    c.loop-i.invariant.3 put.ensures in
-    (omega arith, omega arith, omega arith, left)
+pub put_number-count-requires : goal.put_number-count-requires
+put_number-count-requires c =
+    put_room _ c.loop-image.invariant (omega (arith, spaced_fits c.args.images.now c.loop-image.image-index (omega arith)))
 
-pub returns : goal.returns
-returns c =
-    let a = c.args in
-    let xs = spaced a.images.now in
-    let all = number_stop a.images.now a.at (a.at + length xs) (sets a.answer.now a.at xs) c.loop-i.answer c.loop-i.next c.loop-i.i (omega arith) c.loop-i.invariant.3 in
-    record { stored = all.0; place = all.1 }
+pub loop-image-preserved : goal.loop-image-preserved
+loop-image-preserved c =
+    rw (spaced_more c.args.images.now c.loop-image.image-index (omega arith)) (put_then c.loop-image.invariant c.put_number-count.ensures)

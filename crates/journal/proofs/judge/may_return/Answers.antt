@@ -1,23 +1,25 @@
--- `journal::judge::may_return` meets its contract: each return comes after the tests before it. Assumes nothing.
-use mathlib.Core.Path.{◌∙◌, sym}
+-- `journal::judge::may_return` meets its contract: past the tests before it only the rows behind are left to judge. Assumes nothing.
+use mathlib.Core.Path.{◌≡◌, ◌∙◌, sym, ap}
+use Prim.Native.Nat.{suc, ◌-◌, ◌≤◌}
+use lib.ListN.{length, drop}
 use native.Mathlib.Omega.{arith}
-use Rattle.journal.proofs.Rises.{return_first, return_last, return_steep, return_deep, return_rise}
+use borrow.Author.Tests.{le-leb}
+use Rattle.std.proofs.lemmas.Slice.{between_to_end}
+use Rattle.rows.specs.Limits.{deepest}
+use Rattle.rows.specs.FirstBad.{most_at}
+use Rattle.journal.specs.Entry.{may_return, may_rise}
+use Rattle.journal.proofs.Rises.{return_here}
 use Rattle.journal.proofs.judge.may_return.Goals as goal
 
-pub returns-then-row-lt1 : goal.returns-then-row-lt1
-returns-then-row-lt1 c = sym (return_first _ _ _ _ c.if-row-lt1.true)
-
-pub returns-then-depths-row : goal.returns-then-depths-row
-returns-then-depths-row c = sym (return_last _ _ _ _ c.if-row-lt1.false c.if-depths-row.true)
-
-pub returns-then-most_at-depth : goal.returns-then-most_at-depth
-returns-then-most_at-depth c = sym (return_steep _ _ _ _ c.requires c.if-row-lt1.false c.if-depths-row.false (omega (arith, c.most_at.ensures, c.if-most_at-depth.true)))
-
-pub returns-then-depth : goal.returns-then-depth
-returns-then-depth c = sym (return_deep _ _ _ _ c.requires c.if-row-lt1.false c.if-depths-row.false
-    (omega (arith, c.most_at.ensures, c.if-most_at-depth.false)) c.if-depth.true)
-
 pub returns : goal.returns
-returns c = c.may_rise.ensures
-    ∙ sym (return_rise _ _ _ _ c.requires c.if-row-lt1.false c.if-depths-row.false
-    (omega (arith, c.most_at.ensures, c.if-most_at-depth.false)) c.if-depth.false)
+returns c =
+    let e = return_here c.args.depths.now c.args.entry.row c.args.entry.depth c.args.entry.below c.requires c.if-entry-lt1.false c.if-depths-entry.false in
+    let a : c.args.entry.depth ≤ most_at c.args.depths.now c.args.entry.row = omega (arith, c.most_at.ensures, c.from.ensures) in
+    let b : c.args.entry.depth ≤ deepest = omega (arith, c.from-2.ensures) in
+    let r : may_return c.args.depths.now c.args.entry.row c.args.entry.depth c.args.entry.below
+    ≡ may_rise (suc c.args.entry.depth) c.args.entry.depth c.args.entry.below (drop (c.args.entry.row - 1) c.args.depths.now) =
+    e ∙ rw (le-leb _ _ a, le-leb _ _ b) in
+    c.may_rise.ensures
+    ∙ ap (may_rise (suc c.args.entry.depth) c.args.entry.depth c.args.entry.below)
+    (between_to_end c.args.depths.now (c.args.entry.row - 1) (length c.args.depths.now) (omega arith))
+    ∙ sym r

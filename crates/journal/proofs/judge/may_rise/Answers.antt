@@ -1,29 +1,28 @@
-use mathlib.Core.Path.{◌∙◌, sym}
+-- Each turn leaves the test of the rows behind, and the end the test of the row behind them. Assumes nothing.
 use native.Mathlib.Omega.{arith}
-use Rattle.journal.proofs.Rises.{rise_none, rise_shallow, rise_steep, rise_deep, rise_one, rise_end, rise_behind}
+use Rattle.std.proofs.lemmas.Bool.Decides.{nat_tests}
+use Rattle.journal.proofs.Rises.{rise_turn, rise_last}
 use Rattle.journal.proofs.judge.may_rise.Goals as goal
-
-pub returns-then-depths-i : goal.returns-then-depths-i
-returns-then-depths-i c = sym (rise_none c.args.depths.now c.loop-left.i _ _ _ c.loop-left-test.true c.if-depths-i.true) ∙ c.loop-left.invariant
+use Rattle.journal.proofs.judge.may_rise.Goals.{then-d-depth-via-then-d-depth, then-d-depth-via-else-d-depth+then-most-d, then-d-depth-via-else-d-depth+else-most-d+then-d-ge-DEEPEST}
 
 pub returns-then-d-depth : goal.returns-then-d-depth
-returns-then-d-depth c = sym (rise_shallow c.args.depths.now c.loop-left.i _ _ _ c.loop-left-test.true c.if-depths-i.false c.if-d-depth.true)
-    ∙ c.loop-left.invariant
+returns-then-d-depth c = let e = rise_turn c.args.behind.now c.loop-d.d-index c.loop-d.most c.args.depth c.args.below (omega arith) in
+    elim c.then-d-depth.branch [
+      | then-d-depth-via-then-d-depth w ↦ grind (arith, nat_tests, e)
+      | then-d-depth-via-else-d-depth+then-most-d w ↦ grind (arith, nat_tests, e)
+      | then-d-depth-via-else-d-depth+else-most-d+then-d-ge-DEEPEST w ↦ grind (arith, nat_tests, e)
+    ]
 
-pub returns-then-most-d : goal.returns-then-most-d
-returns-then-most-d c = sym (rise_steep c.args.depths.now c.loop-left.i _ _ _ c.loop-left-test.true c.if-depths-i.false
-    c.if-d-depth.false c.if-most-d.true) ∙ c.loop-left.invariant
+pub loop-d-preserved : goal.loop-d-preserved
+loop-d-preserved c = let e = rise_turn c.args.behind.now c.loop-d.d-index c.loop-d.most c.args.depth c.args.below (omega arith) in
+    grind (arith, nat_tests, e)
 
-pub returns-then-d-ge-DEEPEST : goal.returns-then-d-ge-DEEPEST
-returns-then-d-ge-DEEPEST c = sym (rise_deep c.args.depths.now c.loop-left.i _ _ _ c.loop-left-test.true c.if-depths-i.false
-    c.if-d-depth.false c.if-most-d.false c.if-d-ge-DEEPEST.true) ∙ c.loop-left.invariant
+pub returns-then-behind-below-2 : goal.returns-then-behind-below-2
+returns-then-behind-below-2 c =
+    let e = rise_last c.args.behind.now c.loop-d.d-index c.loop-d.most c.args.depth c.args.below (omega arith) (omega arith) in
+    grind (arith, nat_tests, e)
 
-pub loop-left-preserved : goal.loop-left-preserved
-loop-left-preserved c = sym (rise_one c.args.depths.now c.loop-left.i _ _ _ c.loop-left-test.true c.if-depths-i.false
-    c.if-d-depth.false c.if-most-d.false c.if-d-ge-DEEPEST.false) ∙ c.loop-left.invariant
-
-pub returns-then-depths-i-2 : goal.returns-then-depths-i-2
-returns-then-depths-i-2 c = sym (rise_end c.args.depths.now c.loop-left.i _ _ _ (omega arith) c.if-depths-i-2.true) ∙ c.loop-left.invariant
-
-pub returns : goal.returns
-returns c = sym (rise_behind c.args.depths.now c.loop-left.i _ _ _ (omega arith) c.if-depths-i-2.false) ∙ c.loop-left.invariant
+pub returns-else-behind-below-2 : goal.returns-else-behind-below-2
+returns-else-behind-below-2 c =
+    let e = rise_last c.args.behind.now c.loop-d.d-index c.loop-d.most c.args.depth c.args.below (omega arith) (omega arith) in
+    grind (arith, nat_tests, e)

@@ -1,32 +1,31 @@
-use mathlib.Core.Path.{refl, ◌∙◌}
-use Prim.Native.Nat.{suc, ◌-◌}
+-- `matching::answering::only_row` meets its contract: `contains` tells whether a row has the label. Assumes nothing.
+use mathlib.Core.Bool.{Bool, true, false, false≢true}
+use mathlib.Core.List.{List}
+use mathlib.Core.Logic.{◌↔◌}
+use mathlib.Core.Path.{◌≡◌, refl, sym}
+use Prim.Native.Nat.{ℕ, zero, suc, ◌<◌, ◌≤◌}
 use native.Mathlib.Omega.{arith}
-use borrow.Author.Count.{below_more}
-use Rattle.rows.proofs.AtLaws.{at_row}
+use lib.ListN.{length, get_or}
+use mir.Val.{bool_byte}
+use Rattle.std.proofs.Common.{rules}
+use Rattle.std.specs.Bool.{Decides}
+use Rattle.std.specs.List.{HoldsAt}
+use Rattle.std.proofs.lemmas.Bool.Decides.{Decides-eqb}
+use Rattle.std.proofs.lemmas.Grind.{get_or_default_zero}
+use Rattle.std.proofs.lemmas.List.Elements.{contains_decides, at_read}
+use Rattle.rows.specs.Rows.{at, Row}
 use Rattle.matching.proofs.answering.only_row.Goals as goal
 
-pub loop-i-init : goal.loop-i-init
-loop-i-init c = (omega arith, λ j h. absurd (omega arith))
-
-pub offset_bounds-names-i : goal.offset_bounds-names-i
-offset_bounds-names-i c = omega arith
-
-pub bounds-names-i : goal.bounds-names-i
-bounds-names-i c = omega arith
-
-pub returns-then-name-names : goal.returns-then-name-names
-returns-then-name-names c = (refl, omega arith, (λ o. (suc c.loop-i.i, omega (arith, c.loop-i-test.true), omega (arith, c.if-name-names.true)), λ l. omega arith))
-
-pub overflow_add-i : goal.overflow_add-i
-overflow_add-i c = omega arith
-
-pub loop-i-smaller : goal.loop-i-smaller
-loop-i-smaller c = omega arith
-
-pub loop-i-preserved : goal.loop-i-preserved
-loop-i-preserved c = (omega (arith, c.loop-i-test.true), below_more _ _ c.loop-i.invariant.1 (λ e. omega (arith, c.if-name-names.false)))
+contained : (names : List ℕ) (name : ℕ) (r : Bool) → Decides r ((k : ℕ) × (k < length names) × HoldsAt (λ y. y ≡ name) names k)
+    → (1 ≤ bool_byte r) ↔ ((y : ℕ) × Row names y × (name ≡ at names y))
+contained names name true d = (λ o. let k = d.0 refl in (suc k.0, omega arith, sym (k.2 0)), λ h. omega arith)
+contained names name false d = (λ o. absurd (omega arith), λ h. absurd (none h.0 h.1 h.2))
+  where
+    none : (y : ℕ) → Row names y → name ≡ at names y → ⊥
+    none zero row e = omega (arith, row)
+    none (suc i) row e =
+        let h : i < length names = omega (arith, row) in
+        false≢true (d.1 (i, h, at_read names (λ y. y ≡ name) i (get_or names i 0) h (sym (get_or_default_zero names i _ h)) (sym e)))
 
 pub returns : goal.returns
-returns c = let names = c.args.names.now in
-    let none = c.loop-i.invariant.1 in
-    (refl, omega arith, (λ o. absurd (omega arith), λ l. absurd (none (l.0 - 1) (omega (arith, l.1)) (l.2 ∙ at_row names l.0 l.1.0))))
+returns c = (refl, search rules, contained _ _ _ (contains_decides _ Decides-eqb _ _ _ c.contains.ensures.cases))

@@ -1,10 +1,6 @@
 -- `matching::corners::clear` meets its contract: the words of a level are all 0, and no other word moves. Assumes nothing.
-use Prim.Native.Nat.{◌≤◌, ◌-◌}
 use Rattle.matching.specs.Room.{Written}
 use Rattle.matching.proofs.corners.clear.Given as goal
 
 abbrev pub invariant-loop-i : goal.invariant-loop-i
-invariant-loop-i l = (l.i ≤ l.q) × Written l.initial.room l.base l.i (λ j. 0) l.room
-
-abbrev pub decreases-loop-i : goal.decreases-loop-i
-decreases-loop-i l = l.q - l.i
+invariant-loop-i l = Written l.initial.room l.base l.i (λ j. 0) l.room

@@ -1,11 +1,6 @@
--- `matching::shape::note_kinds` meets its contract: the kind of each label is noted, and the rows' words stay. Assumes nothing.
-use Prim.Native.Nat.{◌≤◌, ◌-◌}
-use lib.ListN.{length}
-use Rattle.matching.proofs.KindLaws.{Noted}
+-- `matching::shape::note_kinds` meets its contract: the kind of each label is noted. Assumes nothing.
+use Rattle.matching.specs.Shape.{Noted}
 use Rattle.matching.proofs.shape.note_kinds.Given as goal
 
-abbrev pub invariant-loop-i : goal.invariant-loop-i
-invariant-loop-i l = (l.i ≤ length l.labels) × Noted l.labels l.initial.shape l.shape l.i
-
-abbrev pub decreases-loop-i : goal.decreases-loop-i
-decreases-loop-i l = length l.labels - l.i
+abbrev pub invariant-loop-label : goal.invariant-loop-label
+invariant-loop-label l = Noted l.labels l.kinds l.label-index

@@ -1,6 +1,0 @@
--- `show_labels` is safe and ends. Assumes nothing.
-use Rattle.std.proofs.Common.{◌-◌, length}
-use Rattle.parcel_cases.proofs.show_labels.Given as goal
-
-abbrev pub decreases-loop-i : goal.decreases-loop-i
-decreases-loop-i g l = length l.labels - l.i

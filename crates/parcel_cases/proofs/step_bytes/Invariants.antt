@@ -1,6 +1,0 @@
--- `step_bytes` is safe and ends. Assumes nothing.
-use Rattle.std.proofs.Common.{◌-◌, length}
-use Rattle.parcel_cases.proofs.step_bytes.Given as goal
-
-abbrev pub decreases-loop-i : goal.decreases-loop-i
-decreases-loop-i l = length l.bytes - l.i
