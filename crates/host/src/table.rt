@@ -6,7 +6,7 @@ ghost use Rattle.host.specs.Table.{Holds};
 
 use parcels::{Limit, Rows};
 
-// A slot for each of N rows in both arrays.
+// A slot for each of N rows in both arrays: of fixed size, since there is no heap.
 #[derive(Drop)]
 pub(crate) struct Table<const N: usize> {
     pub(crate) depths: [u16; N],

@@ -1,4 +1,5 @@
-// Slots that move by one place, of depths as of labels.
+// Slots that move by one place, of depths as of labels. Rows are plain numbers, as document 01 hands them over: a type for one from 1 on would need
+// an unwrap wherever one is reckoned.
 ghost use Rattle.std.specs.Prelude.{◌≡◌, ◌∷◌, ◌++◌, suc, ◌<◌, ◌≤◌, length, take, drop};
 ghost use Rattle.journal.specs.Strike.{without, put_back};
 

@@ -26,7 +26,7 @@ struct Play {
     entries: usize,
 }
 
-// The byte at a place of the input; 0 past its end.
+// The byte at a place of the input; 0 past its end, so that an input that is cut still plays.
 fn byte_at(input: &[u8], i: usize) -> u8 {
     input.get(i).copied().unwrap_or(0)
 }

@@ -1,6 +1,6 @@
 // The corners of the chains asked, as the rows of a listing close and join. Where they stand in the room is told by two plain numbers, `base` and
-// how many (`q`, `z`): each level of the listing has its own, behind those of the level above, and a bounded type for them would need an unwrap at
-// each sum. The chains and the room are lent apart, so that a contract says at once which of them stays.
+// how many (`q`, `z`): each level of the listing has its own, behind those of the level above, and a bounded type for them, or for the
+// number of rows before a tree (`first`), would need an unwrap at each sum. The chains and the room are lent apart, so that a contract says at once which of them stays.
 ghost use Rattle.std.specs.Prelude.{◌≡◌, true, ◌↔◌, ℕ, suc, ◌≤◌, ◌<◌, ◌+◌, length, get_or};
 ghost use Rattle.rows.specs.Rows.{depth, last_row};
 ghost use Rattle.rows.specs.Forest.{size, forest_at};
@@ -112,7 +112,7 @@ fn is_met(shape: &RecipeShape, asked: &Chains, k: usize, i: usize, w: u16) -> bo
 }
 
 // The place of the first row of the path that a tree includes, by its corners on the path's k chains, which stand from base on; the
-// place of no row if there is none.
+// place of no row, as the log's six bits have it, if there is none.
 fn first_place(shape: &RecipeShape, asked: &Chains, room: &Room, base: usize, k: usize) -> usize
     requires k_bound { (k ≤ 256) × (base + k ≤ room_words) }
     requires by_index { (i : ℕ) → i < k → (chain asked.now i ≤ 256) × (get_or room.now (base + i) 0 ≤ 256) × (1 ≤ get_or room.now (base + i) 0 → word 3 shape.now (chain asked.now 0) ≤ word 3 shape.now (get_or room.now (base + i) 0)) }

@@ -34,7 +34,8 @@ fn last_barred(depths: &[u16], map: &[u16], kin: Kin) -> usize
     rows::last_row_of(depths, rows::Opening(image_of(map, kin.left) as usize)).0
 }
 
-// The rows of the recipe have neither images nor marks; slots behind them stay.
+// The rows of the recipe have neither images nor marks; slots behind them stay. The map is a lent slice, so here and below contracts say that it
+// has a slot for each of them.
 fn clear_marks(recipe: &[u16], map: &mut [u16])
     requires { length recipe.now ≤ length map.old }
     ensures { Cleared recipe.now map.old map.new }

@@ -12,7 +12,7 @@ use crate::question::Question;
 use crate::room::Room;
 use crate::shape::RecipeShape;
 
-// The label of recipe row v; that of row 0 is 0.
+// The label of recipe row v; that of row 0 is 0, for a node may name row 0, which is above all roots.
 pub(crate) fn label_of(labels: &[u32], v: u16) -> u32
     requires { v ≤ length labels.now }
     ensures { result ≡ at labels.now v }

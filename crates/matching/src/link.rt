@@ -13,7 +13,7 @@ pub(crate) struct Kin {
     pub parent: u16,
 }
 
-// The last row before v that is no deeper than v, 0 if there is none: from the row before v up by the parents.
+// The last row before v that is no deeper than v, row 0 if there is none: from the row before v up by the parents.
 fn no_deeper(depths: &[u16], shape: &RecipeShape, v: u16) -> u16
     requires { Row depths.now v × Climbs depths.now shape.now v }
     ensures { result ≡ no_deeper depths.now v }

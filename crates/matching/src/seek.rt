@@ -59,7 +59,8 @@ pub(crate) fn seek_row(
 }
 
 // Of the rows behind `first` rows up to row `end`, some of which hold the first row of the path that is asked, with all its
-// descendants, the first of these to close: forest by forest, each shallower than the one before.
+// descendants, the first of these to close: forest by forest, each shallower than the one before. That the path is asked holds of the working
+// room at this moment and not of every one, so contracts say it and no type does.
 pub(crate) fn seek(
     question: &Question,
     first: usize,

@@ -162,7 +162,7 @@ fn write_case(
     out.write_all(bytes)
 }
 
-// Runs one case, and answers whether there was one.
+// Runs one case, and answers whether there was one. There is no heap: what a case may lend stands in arrays of the largest sizes.
 fn one_case(input: &mut impl Read, out: &mut impl Write) -> io::Result<bool> {
     let mut header = [0u8; HEADER];
     let mut bytes = [0u8; MOST_BYTES];

@@ -27,6 +27,7 @@ fn read_full(reader: &mut impl Read, buffer: &mut [u8]) -> usize
 }
 
 fn main(rt: HostRuntime) -> io::Result<()> {
+    // There is no heap: the largest input has its array.
     let mut input = [0u8; 26153];
     let count = read_full(&mut rt.stdin(), &mut input);
     let mut answer = [0; host::ANSWER_BYTES];
