@@ -1,4 +1,4 @@
-// The left-most leaves of the recipe's rows, found from the last row back.
+// The left-most leaves of the recipe's rows, found from the last row back. As in link.rt, the shape is not whole yet: contracts say what is asked.
 ghost use Rattle.std.specs.Prelude.{◌≡◌};
 ghost use Rattle.rows.specs.Rows.{Row, Outline};
 ghost use Rattle.matching.specs.Family.{left_leaf};

@@ -1,4 +1,5 @@
-// The parents and siblings of the recipe's rows, found row by row from row 1 on.
+// The parents and siblings of the recipe's rows, found row by row from row 1 on. The shape is not whole yet: so contracts, and no type, say of
+// the depths and of row v what is asked.
 ghost use Rattle.std.specs.Prelude.{◌≡◌, suc, length};
 ghost use Rattle.rows.specs.Rows.{Row};
 ghost use Rattle.matching.specs.Family.{left_sibling, parent};
