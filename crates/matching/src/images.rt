@@ -53,12 +53,12 @@ fn find_image(question: &Question, work: &mut Work, map: &mut [u16], v: u16, fro
 {
     let name = question.labels[(v as usize) - 1];
     if question.shape.leaf_of(v) == v {
-        return seek_row(question, &work.log, name, None, from);
+        return seek_row(question, name, from, None, &work.log);
     }
     let mark = image_of(map, v);
     let marked = mark != 0;
     if marked {
-        return seek_row(question, &work.log, name, Some(mark), from);
+        return seek_row(question, name, from, Some(mark), &work.log);
     }
     let k = ask_path(question, &mut work.asked, map, v);
     seek_behind(question, from, work, k)

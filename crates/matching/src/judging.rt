@@ -6,25 +6,30 @@ use crate::Refusal;
 use crate::tables::check_tables;
 use rows::{Opening, last_row_of};
 
+// A table, lent once to the whole search.
+#[derive(Clone, Copy)]
+struct Table<'a> {
+    depths: &'a [u16],
+    labels: &'a [u32],
+}
+
 // What is left of a table: its rows after row `after` up to row `last`, which are whole trees.
 #[derive(Clone, Copy)]
 struct Rest<'a> {
-    depths: &'a [u16],
-    labels: &'a [u32],
+    table: &'a Table<'a>,
     after: usize,
     last: usize,
-    ghost searchable: { Searchable depths.now labels.now after last },
+    ghost searchable: { Searchable table.now.depths.now table.now.labels.now after last },
 }
 
 impl<'a> Rest<'a> {
     // The rows of the same table after row `after` up to row `last`.
     fn part(self, after: usize, last: usize) -> Rest<'a>
-        requires { Searchable self.depths.now self.labels.now after last }
-        ensures { (result.depths.now ≡ self.entry.depths.now) × (result.labels.now ≡ self.entry.labels.now) × (result.after ≡ after) × (result.last ≡ last) }
+        requires { Searchable self.table.now.depths.now self.table.now.labels.now after last }
+        ensures { (result.table.now ≡ self.entry.table.now) × (result.after ≡ after) × (result.last ≡ last) }
     {
         Rest {
-            depths: self.depths,
-            labels: self.labels,
+            table: self.table,
             after,
             last,
         }
@@ -33,27 +38,27 @@ impl<'a> Rest<'a> {
 
 // Whether what is left of the recipe lies in what is left of the listing. Each listing row with the first recipe row's label is tried
 // as its image: the rows below the one must lie in the rows below the other, and the rows behind the one's tree in those behind the
-// other's.
-fn search(listing: Rest<'_>, recipe: Rest<'_>) -> bool
-    ensures { Tells recipe.entry.depths.now recipe.entry.labels.now recipe.entry.after recipe.entry.last
-        listing.entry.depths.now listing.entry.labels.now listing.entry.after listing.entry.last result }
+// other's. What is left is lent, and both calls share one `rest`, so that a level takes little of the stack.
+fn search(listing: &Rest<'_>, recipe: &Rest<'_>) -> bool
+    ensures { Tells recipe.now.table.now.depths.now recipe.now.table.now.labels.now recipe.now.after recipe.now.last
+        listing.now.table.now.depths.now listing.now.table.now.labels.now listing.now.after listing.now.last result }
 {
     if recipe.after == recipe.last {
         return true;
     }
-    let label = recipe.labels[recipe.after];
-    let recipe_tree = last_row_of(recipe.depths, Opening(recipe.after + 1)).0;
+    let label = recipe.table.labels[recipe.after];
+    let recipe_tree = last_row_of(recipe.table.depths, Opening(recipe.after + 1)).0;
+    let below = recipe.part(recipe.after + 1, recipe_tree);
+    let behind = recipe.part(recipe_tree, recipe.last);
     for passed in listing.after..listing.last {
-        if listing.labels[passed] == label {
-            let listing_tree = last_row_of(listing.depths, Opening(passed + 1)).0;
-            if search(
-                listing.part(passed + 1, listing_tree),
-                recipe.part(recipe.after + 1, recipe_tree),
-            ) && search(
-                listing.part(listing_tree, listing.last),
-                recipe.part(recipe_tree, recipe.last),
-            ) {
-                return true;
+        if listing.table.labels[passed] == label {
+            let listing_tree = last_row_of(listing.table.depths, Opening(passed + 1)).0;
+            let mut rest = listing.part(passed + 1, listing_tree);
+            if search(&rest, &below) {
+                rest = listing.part(listing_tree, listing.last);
+                if search(&rest, &behind) {
+                    return true;
+                }
             }
         }
     }
@@ -70,17 +75,23 @@ pub fn judge(
     ensures { Judged recipe_depths.now recipe_labels.now listing_depths.now listing_labels.now result }
 {
     check_tables(listing_depths, listing_labels, recipe_depths, recipe_labels)?;
-    let listing = Rest {
+    let listing_table = Table {
         depths: listing_depths,
         labels: listing_labels,
+    };
+    let recipe_table = Table {
+        depths: recipe_depths,
+        labels: recipe_labels,
+    };
+    let listing = Rest {
+        table: &listing_table,
         after: 0,
         last: listing_depths.len(),
     };
     let recipe = Rest {
-        depths: recipe_depths,
-        labels: recipe_labels,
+        table: &recipe_table,
         after: 0,
         last: recipe_depths.len(),
     };
-    Ok(search(listing, recipe))
+    Ok(search(&listing, &recipe))
 }

@@ -32,13 +32,14 @@ fn is_logged(names: &[u32], name: u32, log: &Log, mark: Option<u16>, passed: usi
 
 // Of the rows behind `from` rows, some of which have the label `name` and, where there is a mark, at most that in the log, the first of
 // these to close: the first row, then the first below that one, as long as there is one. A row shallower than `stop` is not below the row
-// come upon.
+// come upon. Kept out of its caller, where its loops are longer and, by the place of the code, slow; with the log last they are shortest.
+#[inline(never)]
 pub(crate) fn seek_row(
     question: &Question,
-    log: &Log,
     name: u32,
-    mark: Option<u16>,
     from: usize,
+    mark: Option<u16>,
+    log: &Log,
 ) -> usize
     requires { (y : ℕ) × (suc from ≤ y) × (y ≤ length question.now.depths.now) × (name ≡ at question.now.names.now y) × IfSome mark (λ i. logged log.now y ≤ i) }
     ensures { FirstIn question.now.depths.now (λ t. (name ≡ at question.now.names.now t) × IfSome mark (λ i. logged log.now t ≤ i)) (suc from) (length question.now.depths.now) result }
