@@ -1,5 +1,5 @@
 -- The plain judge: its search tells inclusion, and its contract leaves one answer. Assumes nothing.
-use mathlib.Core.Path.{◌≡◌, refl}
+use mathlib.Core.Path.{◌≡◌, refl, subst}
 use mathlib.Core.Bool.{Bool, true, false, false≢true}
 use mathlib.Core.List.{List}
 use mathlib.Core.Logic.{◌↔◌}
@@ -32,6 +32,13 @@ module _ (rd rl td tl : List ℕ) where
       go : (r : Bool) → (r ≡ true) ↔ Included (SameLabel rl tl) rd td → Judged rd rl td tl (Ok r)
       go true i = (fine, i.0 refl)
       go false i = (fine, λ h. false≢true (i.1 h))
+
+  -- the same, by what the search says
+  pub judged_yes : tables_check rd rl td tl ≡ Ok tt → (r : Bool) → Tells rd rl 0 (length rd) td tl 0 (length td) r → r ≡ true → Judged rd rl td tl (Ok true)
+  judged_yes fine r told e = subst (λ (s : Bool). Judged rd rl td tl (Ok s)) e (judged fine r told)
+
+  pub judged_no : tables_check rd rl td tl ≡ Ok tt → (r : Bool) → Tells rd rl 0 (length rd) td tl 0 (length td) r → r ≡ false → Judged rd rl td tl (Ok false)
+  judged_no fine r told e = subst (λ (s : Bool). Judged rd rl td tl (Ok s)) e (judged fine r told)
 
   -- two answers of the judge that meet the contract are equal
   pub judge_one : (r s : Result Bool Refusal) → Judged rd rl td tl r → Judged rd rl td tl s → r ≡ s

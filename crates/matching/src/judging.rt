@@ -66,6 +66,8 @@ fn search(listing: &Rest<'_>, recipe: &Rest<'_>) -> bool
 }
 
 // Whether the listing includes the recipe, by the plain search; or the first of the refusals 1 to 9. Lent as `include` is.
+// The laws speak of a yes and of a no apart too, so that a wrong body is refused at the case which it turns.
+#[tactic(auto, using(crate::proofs::JudgeLaws::judged, crate::proofs::JudgeLaws::judged_yes, crate::proofs::JudgeLaws::judged_no))]
 pub fn judge(
     listing_depths: &[u16],
     listing_labels: &[u32],

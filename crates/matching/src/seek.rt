@@ -32,7 +32,8 @@ fn is_logged(names: &[u32], name: u32, log: &Log, mark: Option<u16>, passed: usi
 
 // Of the rows behind `from` rows, some of which have the label `name` and, where there is a mark, at most that in the log, the first of
 // these to close: the first row, then the first below that one, as long as there is one. A row shallower than `stop` is not below the row
-// come upon. Kept out of its caller, where its loops are longer and, by the place of the code, slow; with the log last they are shortest.
+// come upon. Kept out of its caller, where its loop is slow by the place of the code, and in some archives longer; with the log last it is
+// shortest.
 #[inline(never)]
 pub(crate) fn seek_row(
     question: &Question,

