@@ -4,9 +4,9 @@ use Rattle.matching.proofs.TreeJoins.{enters, level_room, few, extend_fits, more
 use Rattle.matching.proofs.TreePass.{bare_through, plain_through, plain_still, sought_below, below_found, below_fits, place_fits, tree_found, tree_through}
 use Rattle.matching.proofs.ForestJoins.{starts, so_none, so_fits, so_sought, so_begins, so_struck, so_found, so_more, so_end}
 use Prim.Native.Nat.{suc}
-use mathlib.Core.Path.{◌∙◌}
+use mathlib.Core.Path.{◌≡◌, ◌∙◌}
 use native.Mathlib.Omega.{arith}
-use Rattle.std.proofs.Common.{rules}
+use Rattle.std.proofs.Common.{rules, Continue, Break}
 use native.Mathlib.Numerals.{add-one}
 use Rattle.matching.proofs.corners.+forest_corners_tree_corners.Goals as goal
 
@@ -135,7 +135,8 @@ pub tree_corners-returns-in_err-end : goal.tree_corners-returns-in_err-end
 tree_corners-returns-in_err-end t c =
     let en = enters c.args.question.now.ready c.requires.begins c.requires.ready.0 c.requires.ready.1 c.requires.by_index in
     let x = c.extend-z.ensures in
-    rw c.from_residual.ensures (below_found en c.in_default.ensures x (rw (x.path, add-one) at c.in_err-end.ensures))
+    let found : c.forest_corners.result ≡ Break c.in_err-end.field-0.0 = search rules in
+    rw c.from_residual.ensures (below_found en c.in_default.ensures x (rw (found, x.path, add-one) at c.forest_corners.ensures))
 
 pub tree_corners-close_asked-requires-clause-z_bound : goal.tree_corners-close_asked-requires-clause-z_bound
 tree_corners-close_asked-requires-clause-z_bound t c =
@@ -147,7 +148,8 @@ pub tree_corners-close_asked-requires-clause-by_index : goal.tree_corners-close_
 tree_corners-close_asked-requires-clause-by_index t c =
     let en = enters c.args.question.now.ready c.requires.begins c.requires.ready.0 c.requires.ready.1 c.requires.by_index in
     let x = c.extend-z.ensures in
-    let p = rw (x.path, add-one) at c.in_ok-end.ensures in
+    let through : c.forest_corners.result ≡ Continue c.in_ok-end.end = search rules in
+    let p = rw (through, x.path, add-one) at c.forest_corners.ensures in
     close_fits en c.in_default.ensures x p.1.ends
 
 pub tree_corners-first_place-place-requires-clause-k_bound : goal.tree_corners-first_place-place-requires-clause-k_bound
@@ -162,7 +164,8 @@ pub tree_corners-first_place-place-requires-clause-by_index : goal.tree_corners-
 tree_corners-first_place-place-requires-clause-by_index t c =
     let en = enters c.args.question.now.ready c.requires.begins c.requires.ready.0 c.requires.ready.1 c.requires.by_index in
     let x = c.extend-z.ensures in
-    let p = rw (x.path, add-one) at c.in_ok-end.ensures in
+    let through : c.forest_corners.result ≡ Continue c.in_ok-end.end = search rules in
+    let p = rw (through, x.path, add-one) at c.forest_corners.ensures in
     let e = c.path_chains-k.ensures ∙ x.path in
     rw e (below_fits en c.in_default.ensures x p.1 c.close_asked.ensures)
 
@@ -170,7 +173,8 @@ pub tree_corners-overflow_cast-place : goal.tree_corners-overflow_cast-place
 tree_corners-overflow_cast-place t c =
     let en = enters c.args.question.now.ready c.requires.begins c.requires.ready.0 c.requires.ready.1 c.requires.by_index in
     let x = c.extend-z.ensures in
-    let p = rw (x.path, add-one) at c.in_ok-end.ensures in
+    let through : c.forest_corners.result ≡ Continue c.in_ok-end.end = search rules in
+    let p = rw (through, x.path, add-one) at c.forest_corners.ensures in
     let e = c.path_chains-k.ensures ∙ x.path in
     omega (arith, place_fits en c.in_default.ensures x p.1 c.close_asked.ensures (rw e at c.first_place-place.ensures))
 
@@ -178,7 +182,8 @@ pub tree_corners-write-requires-2 : goal.tree_corners-write-requires-2
 tree_corners-write-requires-2 t c =
     let en = enters c.args.question.now.ready c.requires.begins c.requires.ready.0 c.requires.ready.1 c.requires.by_index in
     let x = c.extend-z.ensures in
-    let p = rw (x.path, add-one) at c.in_ok-end.ensures in
+    let through : c.forest_corners.result ≡ Continue c.in_ok-end.end = search rules in
+    let p = rw (through, x.path, add-one) at c.forest_corners.ensures in
     let e = c.path_chains-k.ensures ∙ x.path in
     (omega (arith, en.inside, en.ready.few), omega (arith, place_fits en c.in_default.ensures x p.1 c.close_asked.ensures (rw e at c.first_place-place.ensures)))
 
@@ -186,7 +191,8 @@ pub tree_corners-returns-then-place-eq0 : goal.tree_corners-returns-then-place-e
 tree_corners-returns-then-place-eq0 t c =
     let en = enters c.args.question.now.ready c.requires.begins c.requires.ready.0 c.requires.ready.1 c.requires.by_index in
     let x = c.extend-z.ensures in
-    let p = rw (x.path, add-one) at c.in_ok-end.ensures in
+    let through : c.forest_corners.result ≡ Continue c.in_ok-end.end = search rules in
+    let p = rw (through, x.path, add-one) at c.forest_corners.ensures in
     let e = c.path_chains-k.ensures ∙ x.path in
     rw add-one
     (tree_found en c.in_default.ensures x p.1 c.close_asked.ensures (rw e at c.first_place-place.ensures) (rw e at c.write-2.ensures) c.if-place-eq0.true)
@@ -201,14 +207,16 @@ pub tree_corners-join_asked-requires-clause-by_index : goal.tree_corners-join_as
 tree_corners-join_asked-requires-clause-by_index t c =
     let en = enters c.args.question.now.ready c.requires.begins c.requires.ready.0 c.requires.ready.1 c.requires.by_index in
     let x = c.extend-z.ensures in
-    let p = rw (x.path, add-one) at c.in_ok-end.ensures in
+    let through : c.forest_corners.result ≡ Continue c.in_ok-end.end = search rules in
+    let p = rw (through, x.path, add-one) at c.forest_corners.ensures in
     tree_joins en c.in_default.ensures x p.1.ends c.close_asked.ensures
 
 pub tree_corners-returns : goal.tree_corners-returns
 tree_corners-returns t c =
     let en = enters c.args.question.now.ready c.requires.begins c.requires.ready.0 c.requires.ready.1 c.requires.by_index in
     let x = c.extend-z.ensures in
-    let p = rw (x.path, add-one) at c.in_ok-end.ensures in
+    let through : c.forest_corners.result ≡ Continue c.in_ok-end.end = search rules in
+    let p = rw (through, x.path, add-one) at c.forest_corners.ensures in
     let e = c.path_chains-k.ensures ∙ x.path in
     tree_through en c.in_default.ensures x p.1 c.close_asked.ensures (rw e at c.first_place-place.ensures) (rw e at c.write-2.ensures) c.if-place-eq0.false p.0
     c.join_asked.ensures
